@@ -1,0 +1,12 @@
+//! Formats that are read and written octet by octet: readers of fields, a writer of fields, and the laws that tie
+//! each reader to its spelling.
+#![tactic(auto)]
+
+mod reading;
+mod writing;
+
+pub use reading::{
+    Unread, array4_at, array8_at, array16_at, array64_at, octet_in, octets_at, u16_at, u32_at,
+    u64_at, zeros_at,
+};
+pub use writing::put;

@@ -1,0 +1,11 @@
+//! A field is written at its place.
+
+ghost use Rattle.std.specs.Prelude.{◌≡◌, ◌+◌, ◌≤◌, ◌++◌, length, take, drop};
+
+/// Writes a field at a place. All other octets stay.
+pub fn put(out: &mut [u8], at: usize, field: &[u8])
+    requires { at + length field.now ≤ length out.old }
+    ensures { out.new ≡ take at out.old ++ field.now ++ drop (at + length field.now) out.old }
+{
+    out[at..at + field.len()].copy_from_slice(field);
+}

@@ -1,0 +1,4 @@
+pub mod Keys
+pub mod Configs
+pub mod Spelling
+pub mod Same

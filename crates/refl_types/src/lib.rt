@@ -1,0 +1,10 @@
+//! Keys, configurations and causes: what every part of the reflector speaks of.
+#![tactic(auto)]
+
+mod config;
+mod outcome;
+mod types;
+
+pub use config::{Clock, Config, ConfigFault, ConfigParts};
+pub use outcome::{Memory, Place, Silent, Unanswered};
+pub use types::{Address, Endpoint, Extra, Key, LocalAddr, Meta, Mode};
