@@ -1,6 +1,10 @@
--- Fields that are written one after the other.
-use Rattle.std.proofs.Common.{◌≡◌, ℕ, ◌+◌, List, [], ◌++◌, length, take, drop, refl, sym, ap, ◌∙◌, arith}
-use Rattle.std.proofs.lemmas.List.{take_at, drop_at, drop-drop, length-append}
+-- Fields that are written one after the other, and read at their places.
+use Rattle.std.proofs.Common.{◌≡◌, ℕ, ◌+◌, ◌≤◌, List, [], ◌++◌, length, take, drop, refl, sym, ap, ◌∙◌, arith}
+use Rattle.std.specs.Int.{w16, w32, from_be_bytes, to_be_bytes}
+use Rattle.std.proofs.lemmas.List.{take_at, drop_at, drop-drop, take-append-drop, length-append, length-drop, length-take-le}
+use Rattle.std.proofs.lemmas.Nat.{be_bytes_2, be_bytes_4}
+use Rattle.octet_format.specs.Octets.{IsBytes, field}
+use Rattle.octet_format.proofs.Obeys.{IsBytes-drop, IsBytes-take}
 
 -- cur is front, and then what old has past it
 pub record Has (front old cur : List ℕ) (at : ℕ) : Type 0 where
@@ -23,3 +27,18 @@ has_more front old cur field given new at n next has same e len sum =
       parts = e ∙ rw (first, rest, same) refl;
       len = omega (arith, length-append front field, has.len);
     }
+
+-- what stands from a place on begins with the field there
+pub cut : (at n next : ℕ) (octets : List ℕ) → at + n ≡ next → drop at octets ≡ field at n octets ++ drop next octets
+cut at n next octets sum =
+    sym (take-append-drop n (drop at octets)) ∙ ap (λ (rest : List ℕ). field at n octets ++ rest) (drop-drop n at octets ∙ ap (λ (m : ℕ). drop m octets) sum)
+
+pub length-field : (at n : ℕ) (octets : List ℕ) → at + n ≤ length octets → length (field at n octets) ≡ n
+length-field at n octets le = length-take-le n (drop at octets) (omega (arith, length-drop at octets))
+
+-- a field is the spelling of the number that it is read as
+pub field_16 : (at : ℕ) (octets : List ℕ) → IsBytes octets → at + 2 ≤ length octets → to_be_bytes w16 (from_be_bytes w16 (field at 2 octets)) ≡ field at 2 octets
+field_16 at octets bytes le = be_bytes_2 (field at 2 octets) (from_be_bytes w16 (field at 2 octets)) (length-field at 2 octets le) (IsBytes-take 2 (drop at octets) (IsBytes-drop at octets bytes)) refl
+
+pub field_32 : (at : ℕ) (octets : List ℕ) → IsBytes octets → at + 4 ≤ length octets → to_be_bytes w32 (from_be_bytes w32 (field at 4 octets)) ≡ field at 4 octets
+field_32 at octets bytes le = be_bytes_4 (field at 4 octets) (from_be_bytes w32 (field at 4 octets)) (length-field at 4 octets le) (IsBytes-take 4 (drop at octets) (IsBytes-drop at octets bytes)) refl

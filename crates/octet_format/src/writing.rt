@@ -3,6 +3,7 @@
 ghost use Rattle.std.specs.Prelude.{◌≡◌, ◌+◌, ◌≤◌, ◌++◌, length, take, drop};
 
 /// Writes a field at a place. All other octets stay.
+#[inline]
 pub fn put(out: &mut [u8], at: usize, field: &[u8])
     requires { at + length field.now ≤ length out.old }
     ensures { out.new ≡ take at out.old ++ field.now ++ drop (at + length field.now) out.old }

@@ -1,0 +1,6 @@
+//! Moments in the formats of timestamps.
+#![tactic(auto)]
+
+mod timestamp;
+
+pub use timestamp::stamp;
