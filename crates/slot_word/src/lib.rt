@@ -5,11 +5,17 @@
 ghost use Rattle.std.specs.Prelude.{◌≡◌, ◌<◌, not};
 ghost use Rattle.slot_word.specs.Fields.{sequence_in, generation_in, row_in, is_open_word, word_of};
 
-/// How many rows a word can name, 0 included. A row takes 15 bits.
-pub const ROW_LIMIT: u64 = 32768;
+/// How many bits of a word the row takes.
+pub const ROW_BITS: u32 = 15;
 
-/// How many generations a word can count, 0 included. A generation takes 16 bits.
-pub const GENERATION_LIMIT: u64 = 65536;
+/// How many bits of a word the generation takes: what the sequence number, the row and the closed bit leave.
+pub const GENERATION_BITS: u32 = 31 - ROW_BITS;
+
+/// A row is below this.
+pub const ROW_LIMIT: u64 = 1 << ROW_BITS;
+
+/// A generation is below this.
+pub const GENERATION_LIMIT: u64 = 1 << GENERATION_BITS;
 
 /// What is added to a word to draw its sequence number.
 pub const DRAW: u64 = 4294967296;
@@ -34,6 +40,7 @@ pub struct Fields {
 }
 
 /// The word of these fields.
+#[tactic(auto, unfolding(crate::specs::Fields::word_of))]
 pub fn pack(fields: &Fields) -> u64
     requires generation { fields.now.generation < GENERATION_LIMIT }
     requires row { fields.now.row < ROW_LIMIT }
@@ -47,6 +54,7 @@ pub fn pack(fields: &Fields) -> u64
 }
 
 /// The fields of a word.
+#[tactic(auto, unfolding(crate::specs::Fields::sequence_in, crate::specs::Fields::generation_in, crate::specs::Fields::row_in, crate::specs::Fields::is_open_word))]
 pub fn unpack(word: u64) -> Fields
     ensures sequence { result.sequence ≡ sequence_in word }
     ensures generation { result.generation ≡ generation_in word }
