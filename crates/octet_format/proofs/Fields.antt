@@ -1,7 +1,8 @@
 -- Fields that are written one after the other, and read at their places.
-use Rattle.std.proofs.Common.{◌≡◌, ℕ, ◌+◌, ◌≤◌, List, [], ◌++◌, length, take, drop, refl, sym, ap, ◌∙◌, arith}
+use Rattle.std.proofs.Common.{◌≡◌, ℕ, ◌+◌, ◌-◌, ◌≤◌, List, [], ◌∷◌, ◌++◌, length, take, drop, refl, sym, ap, ◌∙◌, append_assoc, arith}
+use borrow.Rule.Slice.PartMut.{put_mid}
 use Rattle.std.specs.Int.{w16, w32, from_be_bytes, to_be_bytes}
-use Rattle.std.proofs.lemmas.List.{take_at, drop_at, drop-drop, take-append-drop, length-append, length-drop, length-take-le}
+use Rattle.std.proofs.lemmas.List.{take_at, drop_at, drop-drop, take-append-drop, length-append, length-drop, length-take-le, append-nil, nil_from_length}
 use Rattle.std.proofs.lemmas.Nat.{be_bytes_2, be_bytes_4}
 use Rattle.octet_format.specs.Octets.{IsBytes, field}
 use Rattle.octet_format.proofs.Obeys.{IsBytes-drop, IsBytes-take}
@@ -42,3 +43,21 @@ field_16 at octets bytes le = be_bytes_2 (field at 2 octets) (from_be_bytes w16 
 
 pub field_32 : (at : ℕ) (octets : List ℕ) → IsBytes octets → at + 4 ≤ length octets → to_be_bytes w32 (from_be_bytes w32 (field at 4 octets)) ≡ field at 4 octets
 field_32 at octets bytes le = be_bytes_4 (field at 4 octets) (from_be_bytes w32 (field at 4 octets)) (length-field at 4 octets le) (IsBytes-take 4 (drop at octets) (IsBytes-drop at octets bytes)) refl
+
+-- what a writer leaves that was lent the octets from a place on
+pub written_from : (at : ℕ) (old given text : List ℕ) → at + length text ≤ length old → given ≡ text ++ drop (length text) (take (length old - at) (drop at old))
+    → put_mid at (length old - at) old given ≡ take at old ++ text ++ drop (at + length text) old
+written_from at old given text fits e =
+    let all : take (length old - at) (drop at old) ≡ drop at old = ap (λ (n : ℕ). take n (drop at old)) (sym (length-drop at old)) ∙ take_all (drop at old) in
+    let rest : drop (length text) (take (length old - at) (drop at old)) ≡ drop (at + length text) old = ap (drop (length text)) all ∙ drop-drop (length text) at old in
+    let past : drop (length old - at) (drop at old) ≡ [] = drop_past (length old - at) (drop at old) (omega (arith, length-drop at old)) in
+    ap (λ (l : List ℕ). take at old ++ (l ++ drop (length old - at) (drop at old))) (e ∙ ap (λ (l : List ℕ). text ++ l) rest)
+    ∙ ap (λ (l : List ℕ). take at old ++ ((text ++ drop (at + length text) old) ++ l)) past
+    ∙ ap (λ (l : List ℕ). take at old ++ l) (append-nil (text ++ drop (at + length text) old))
+    ∙ sym (append_assoc (take at old) text (drop (at + length text) old))
+  where
+    take_all : (l : List ℕ) → take (length l) l ≡ l
+    take_all [] = refl
+    take_all (x ∷ l) = ap (λ (r : List ℕ). x ∷ r) (take_all l)
+    drop_past : (n : ℕ) (l : List ℕ) → length l ≤ n → drop n l ≡ []
+    drop_past n l le = nil_from_length (drop n l) (omega (arith, length-drop n l))

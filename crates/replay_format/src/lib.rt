@@ -6,7 +6,7 @@ mod code;
 mod fields;
 mod record;
 
-pub use answer::{Outcome, write_outcome};
+pub use answer::{Outcome, REPLY_AT, frame_reply, write_outcome};
 pub use code::{
     BAD_HMAC, DUPLICATE, FULL, MODE_CLASH, NO_KEY, NO_SESSION, NOT_SERVED, OPENED, SHORT,
 };

@@ -19,15 +19,18 @@ session_limit = 1024
 unfoldable pub is_served : Opening → Bool
 is_served o = same_mode o.key.mode Plain && o.config.stateful && not (is_ptp o.config.clock) && not (has o.config.key) && o.config.tlvs == 0
 
--- the refusals of an opening, in their order
-unfoldable pub opening_code : Table → Opening → ℕ
-opening_code t o =
+-- the refusals of an opening, in their order, where its key is bound, clashes, or so many sessions are open
+unfoldable pub code_of : Bool → Bool → ℕ → Opening → ℕ
+code_of bound clash open_sessions o =
     if not (is_served o) then NOT_SERVED
-    else (if is_bound o.key t then DUPLICATE
-    else (if has_clash o.key t then MODE_CLASH
+    else (if bound then DUPLICATE
+    else (if clash then MODE_CLASH
     else (if same_mode o.key.mode Auth && not (has o.config.key) then NO_KEY
-    else (if length t == session_limit then FULL
+    else (if open_sessions == session_limit then FULL
     else OPENED))))
+
+abbrev pub opening_code : Table → Opening → ℕ
+opening_code t o = code_of (is_bound o.key t) (has_clash o.key t) (length t) o
 
 abbrev pub opened_entry : Opening → Entry
 opened_entry o = record { key = o.key; extra = o.extra; config = o.config; count = 0 }
