@@ -42,3 +42,20 @@ field_16 at octets bytes le = be_bytes_2 (field at 2 octets) (from_be_bytes w16 
 
 pub field_32 : (at : ℕ) (octets : List ℕ) → IsBytes octets → at + 4 ≤ length octets → to_be_bytes w32 (from_be_bytes w32 (field at 4 octets)) ≡ field at 4 octets
 field_32 at octets bytes le = be_bytes_4 (field at 4 octets) (from_be_bytes w32 (field at 4 octets)) (length-field at 4 octets le) (IsBytes-take 4 (drop at octets) (IsBytes-drop at octets bytes)) refl
+
+-- before the first field, what stands before it
+pub has_front : (old : List ℕ) (at : ℕ) → at ≤ length old → Has (take at old) old old at
+has_front old at le = record { parts = sym (take-append-drop at old); len = length-take-le at old le }
+
+-- a slice keeps its length, so what was written has the length of what it stands for
+pub length_written : (front old new : List ℕ) (at : ℕ) → new ≡ front ++ drop at old → length new ≡ length old → at ≤ length old → length front ≡ at
+length_written front old new at e same le = omega (arith, ap length e, length-append front (drop at old), length-drop at old)
+
+pub length_put : (field old new : List ℕ) (at next : ℕ) → new ≡ take at old ++ field ++ drop next old → length new ≡ length old → at ≤ next → next ≤ length old → at + length field ≡ next
+length_put field old new at next e same le lt = omega (arith, ap length e, length-append (take at old ++ field) (drop next old), length-append (take at old) field, length-take-le at old (omega arith), length-drop next old)
+
+-- what was written at its place, after a front
+pub has_put : (front old cur field new : List ℕ) (at next : ℕ) → Has front old cur at → new ≡ take at cur ++ field ++ drop next cur → length new ≡ length cur → at ≤ next → next ≤ length cur → Has (front ++ field) old new next
+has_put front old cur field new at next has e same le lt =
+    let len : at + length field ≡ next = length_put field cur new at next e same le lt in
+    has_more front old cur field field new at (length field) next has refl (e ∙ ap (λ (n : ℕ). take at cur ++ field ++ drop n cur) (sym len)) refl len
