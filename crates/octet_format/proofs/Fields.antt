@@ -1,5 +1,5 @@
 -- Fields that are written one after the other, and read at their places.
-use Rattle.std.proofs.Common.{◌≡◌, ℕ, ◌+◌, ◌≤◌, List, [], ◌++◌, length, take, drop, refl, sym, ap, ◌∙◌, arith}
+use Rattle.std.proofs.Common.{◌≡◌, ℕ, ◌+◌, ◌≤◌, List, [], ◌++◌, length, take, drop, refl, sym, ap, ◌∙◌, append_assoc, arith}
 use Rattle.std.specs.Int.{w16, w32, from_be_bytes, to_be_bytes}
 use Rattle.std.proofs.lemmas.List.{take_at, drop_at, drop-drop, take-append-drop, length-append, length-drop, length-take-le}
 use Rattle.std.proofs.lemmas.Nat.{be_bytes_2, be_bytes_4}
@@ -59,3 +59,10 @@ pub has_put : (front old cur field new : List ℕ) (at next : ℕ) → Has front
 has_put front old cur field new at next has e same le lt =
     let len : at + length field ≡ next = length_put field cur new at next e same le lt in
     has_more front old cur field field new at (length field) next has refl (e ∙ ap (λ (n : ℕ). take at cur ++ field ++ drop n cur) (sym len)) refl len
+
+-- what stays between two fields
+pub has_same : (front old cur : List ℕ) (at n next : ℕ) → Has front old cur at → at + n ≡ next → next ≤ length old → Has (front ++ field at n old) old cur next
+has_same front old cur at n next has sum le = record {
+  parts = has.parts ∙ ap (λ (rest : List ℕ). front ++ rest) (cut at n next old sum) ∙ sym (append_assoc front (field at n old) (drop next old));
+  len = omega (arith, length-append front (field at n old), length-field at n old (omega arith), has.len);
+}

@@ -1,2 +1,3 @@
 pub mod SplitFacts
 pub mod Steps
+pub mod Walks
