@@ -31,8 +31,10 @@ fn has_base_hmac(block: &[u8; 64], octets: &[u8]) -> bool
     field16(octets, COVERED) == mac128(block, covered, &[])
 }
 
+/// The fields of a request whose HMAC was looked at before.
+#[inline]
 #[tactic(auto, unfolding(crate::specs::Request::auth_sender_of))]
-fn sender_of(octets: &[u8]) -> SenderBase
+pub fn auth_sender(octets: &[u8]) -> SenderBase
     requires { 112 ≤ length octets.now }
     ensures { result ≡ auth_sender_of octets.now }
 {
@@ -56,5 +58,5 @@ pub fn read_auth(block: &[u8; 64], octets: &[u8]) -> Result<SenderBase, AuthFaul
     if !has_base_hmac(block, octets) {
         return Err(AuthFault::BadHmac);
     }
-    Ok(sender_of(octets))
+    Ok(auth_sender(octets))
 }

@@ -4,4 +4,5 @@
 mod reply;
 mod rows;
 
-pub use reply::{Acted, ReplyFacts, act};
+pub use reply::{Acted, ReplyFacts, act, copy_tlv};
+pub use rows::is_understood;

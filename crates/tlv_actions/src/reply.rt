@@ -71,6 +71,18 @@ fn answer(parts: &ConfigParts, n: u32, span: &Span, value: &[u8], out: &mut [u8]
     Acted::Done
 }
 
+/// Writes the TLV of a tail at a span with other flags, and no other octet.
+#[inline]
+pub fn copy_tlv(tail: &[u8], span: &Span, flags: u8, out: &mut [u8])
+    requires whole { span.now.at + 4 + span.now.len ≤ length tail.now }
+    requires room { length out.old ≡ length tail.now }
+    ensures { WritesTlv out.old span.now (record (tlv_at tail.now span.now) { flags = flags }) out.new }
+{
+    let (_, from_value) = tail.split_at(span.at + HEADER_LEN);
+    let (value, _) = from_value.split_at(usize::from(span.len));
+    write(span, flags, value, out);
+}
+
 /// Writes what the reply has for the TLV of a tail at a span, and no other octet. Of an HMAC TLV it writes flags 0 and
 /// all else as received.
 #[inline]

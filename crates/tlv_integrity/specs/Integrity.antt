@@ -1,6 +1,6 @@
 -- The integrity of a tail. Which octets the HMAC TLV covers, where it may stand and when it must be there is this
 -- project's own, after RFC 8972, section 4.8.
-use Rattle.std.specs.Prelude.{ℕ, Bool, true, false, ◌==◌, ◌&&◌, not, nat_eq, if◌then◌else◌, List, ◌++◌, length, take, Option, Some, None, option_to_list}
+use Rattle.std.specs.Prelude.{ℕ, ◌+◌, ◌≤◌, IsSome, Bool, true, false, ◌==◌, ◌&&◌, not, nat_eq, if◌then◌else◌, List, ◌++◌, length, take, Option, Some, None, option_to_list}
 use Rattle.std.specs.Cmp.Lexicographic.{pointwise}
 use Rattle.hmac_sha256.specs.Hmac.{mac128_of}
 use Rattle.refl_types.specs.declared.types.Mode.{Mode}
@@ -51,3 +51,9 @@ abbrev pub without : Mode → Option ℕ → List ℕ → Integrity
 without mode head heads =
     if is_hmac_head head then Failed
     else (if may_lack_hmac mode heads then Absent else Failed)
+
+-- a place is that of a whole HMAC TLV of a tail, under a key
+abbrev pub IsPlaced : Integrity → ConfigParts → ℕ → Type 0
+IsPlaced Absent c len = Unit {0}
+IsPlaced Failed c len = Unit {0}
+IsPlaced (Passed at) c len = IsSome c.key × (at + 20 ≤ len)

@@ -1,7 +1,7 @@
 //! The integrity of a tail. The rule is this project's own, after RFC 8972, section 4.8.
 
-ghost use Rattle.std.specs.Prelude.{◌≡◌, ◌+◌, ◌≤◌, length, drop};
-ghost use Rattle.tlv_integrity.specs.Integrity.{integrity, fits, without};
+ghost use Rattle.std.specs.Prelude.{◌≡◌, true, ◌+◌, ◌≤◌, length, drop};
+ghost use Rattle.tlv_integrity.specs.Integrity.{integrity, fits, without, IsPlaced};
 ghost use Rattle.tlv_integrity.specs.Heads.{heads, placed_at, rest_head};
 ghost use Rattle.tlv_chain.specs.Split.{split};
 
@@ -34,7 +34,8 @@ pub enum Integrity {
 /// Whether the HMAC TLV at a span covers the tail and fits.
 fn fits(block: &[u8; 64], sequence: &[u8; 4], tail: &[u8], span: &Span) -> bool
     requires { span.now.at + 4 + span.now.len ≤ length tail.now }
-    ensures { result ≡ fits block.now sequence.now tail.now (placed_at tail.now span.now) (split (drop (span.now.at + 4 + span.now.len) tail.now)).rest }
+    ensures len { result ≡ true → span.now.len ≡ 16 }
+    ensures value { result ≡ fits block.now sequence.now tail.now (placed_at tail.now span.now) (split (drop (span.now.at + 4 + span.now.len) tail.now)).rest }
 {
     if span.len != MAC_LEN {
         return false;
@@ -64,7 +65,8 @@ fn without(mode: Mode, tail: &[u8], at: usize) -> Integrity
 
 /// The integrity of a tail, under the configuration's key and the request's Sequence Number.
 pub fn check(mode: Mode, config: &Config, sequence: &[u8; 4], tail: &[u8]) -> Integrity
-    ensures { result ≡ integrity mode config.now sequence.now tail.now }
+    ensures value { result ≡ integrity mode config.now sequence.now tail.now }
+    ensures place { IsPlaced result config.now (length tail.now) }
 {
     let Some(block) = &config.as_parts().key else {
         return Integrity::Absent;

@@ -8,15 +8,15 @@ use Rattle.tlv_integrity.specs.Heads.{placed_at, heads, all_padding}
 use Rattle.tlv_integrity.proofs.Cases.{fits_is, is_not}
 use Rattle.tlv_integrity.proofs.integrity.fits.Goals as goal
 
-pub returns-then-span-ne-MAC_LEN : goal.returns-then-span-ne-MAC_LEN
-returns-then-span-ne-MAC_LEN c =
+pub returns-then-span-ne-MAC_LEN-clause-value : goal.returns-then-span-ne-MAC_LEN-clause-value
+returns-then-span-ne-MAC_LEN-clause-value c =
     let s = c.args.span.now in
     let tail = c.args.tail.now in
     let len : eqb (length (field (s.at + 4) s.len tail)) 16 ≡ false = ap (λ (n : ℕ). eqb n 16) (length-field (s.at + 4) s.len tail c.requires) ∙ is_not s.len 16 c.if-span-ne-MAC_LEN.true in
     fits_is c.args.block.now c.args.sequence.now tail (placed_at tail s) (split (drop (s.at + 4 + s.len) tail)).rest false _ _ len refl refl
 
-pub returns-then-not-all_padding : goal.returns-then-not-all_padding
-returns-then-not-all_padding c =
+pub returns-then-not-all_padding-clause-value : goal.returns-then-not-all_padding-clause-value
+returns-then-not-all_padding-clause-value c =
     let s = c.args.span.now in
     let tail = c.args.tail.now in
     let len : eqb (length (field (s.at + 4) s.len tail)) 16 ≡ true = ap (λ (n : ℕ). eqb n 16) (length-field (s.at + 4) s.len tail c.requires ∙ c.if-span-ne-MAC_LEN.false) in
@@ -24,8 +24,8 @@ returns-then-not-all_padding c =
     sym (c.all_padding.ensures ∙ ap (λ (o : List ℕ). all_padding (heads (split o))) (c.split_at.ensures.back ∙ ap (λ (n : ℕ). drop (s.at + 4 + n) tail) c.from.ensures)) ∙ c.if-not-all_padding.true in
     fits_is c.args.block.now c.args.sequence.now tail (placed_at tail s) (split (drop (s.at + 4 + s.len) tail)).rest true false _ len after refl
 
-pub returns : goal.returns
-returns c =
+pub returns-clause-value : goal.returns-clause-value
+returns-clause-value c =
     let s = c.args.span.now in
     let tail = c.args.tail.now in
     let sequence = c.args.sequence.now in
