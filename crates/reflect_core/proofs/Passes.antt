@@ -41,10 +41,10 @@ goes_on whole tail old s new out out' t way went writes same next =
     let here : take s.at out ++ whole (split (drop s.at tail)) ≡ whole (split tail) = subst (λ (n : ℕ). take n out ++ whole (split (drop n tail)) ≡ whole (split tail)) (sym went.from) way.so_far in
     let front : take (past s) out' ≡ take s.at out ++ tlv_octets t = front_past out out' s t (length tail) writes (same ∙ way.room) way.room step.within in
     let there : take (past s) out' ++ whole left ≡ whole (split tail) =
-        ap (λ (x : List ℕ). x ++ whole left) front
-        ∙ append_assoc (take s.at out) (tlv_octets t) (whole left)
-        ∙ ap (λ (x : List ℕ). take s.at out ++ x) (sym (ap whole step.split ∙ next left))
-        ∙ here in
+    ap (λ (x : List ℕ). x ++ whole left) front
+    ∙ append_assoc (take s.at out) (tlv_octets t) (whole left)
+    ∙ ap (λ (x : List ℕ). take s.at out ++ x) (sym (ap whole step.split ∙ next left))
+    ∙ here in
     record {
       of = went.tail ∙ way.of;
       within = omega (arith, to, step.within);

@@ -36,7 +36,13 @@ fn sequence_of(parts: &ConfigParts, n: u32, sender: &SenderBase) -> u32
 /// The fields of the reply to a request, with the number `n` that was drawn and the moment `t3` of sending.
 #[inline]
 #[tactic(auto, unfolding(crate::specs::Base::reply_base))]
-pub fn reply_base(parts: &ConfigParts, n: u32, meta: &Meta, t3: u64, sender: &SenderBase) -> ReplyBase
+pub fn reply_base(
+    parts: &ConfigParts,
+    n: u32,
+    meta: &Meta,
+    t3: u64,
+    sender: &SenderBase,
+) -> ReplyBase
     requires { IsConfig parts.now }
     ensures { result ≡ reply_base parts.now n meta.now t3 sender.now }
 {

@@ -37,7 +37,14 @@ pub struct Reply {
 
 /// Writes the reply of an unauthenticated STAMP session.
 #[inline]
-fn reflect_plain(config: &Config, n: u32, meta: &Meta, t3: u64, input: &[u8], out: &mut [u8]) -> usize
+fn reflect_plain(
+    config: &Config,
+    n: u32,
+    meta: &Meta,
+    t3: u64,
+    input: &[u8],
+    out: &mut [u8],
+) -> usize
     requires judged { 44 ≤ length input.now }
     requires room { length input.now ≤ length out.old }
     ensures len { result ≡ length input.now }

@@ -137,7 +137,15 @@ fn write_tail_at(
     let (_, tail) = input.split_at(at);
     let asked = field4(input, 0);
     let answered = sequence.to_be_bytes();
-    write_tail(mode, config, n, &asked, &answered, tail, &mut out[at..input.len()]);
+    write_tail(
+        mode,
+        config,
+        n,
+        &asked,
+        &answered,
+        tail,
+        &mut out[at..input.len()],
+    );
 }
 
 /// Writes the tail of a reply after its base packet, if there is one.
