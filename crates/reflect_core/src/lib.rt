@@ -6,6 +6,8 @@ mod base;
 mod judging;
 mod reflecting;
 mod tails;
+#[cfg(test)]
+mod tests;
 
 pub use judging::{Judged, judge};
 pub use reflecting::{Reply, reflect};

@@ -60,3 +60,30 @@ pub fn read_auth(block: &[u8; 64], octets: &[u8]) -> Result<SenderBase, AuthFaul
     }
     Ok(auth_sender(octets))
 }
+
+#[cfg(test)]
+mod tests {
+    use super::*;
+    use hmac_sha256::block_key;
+
+    /// A request with sequence number 5 and SSID 7, under the key "Jefe". The HMAC is of another implementation.
+    const REQUEST: &[u8] =
+        b"\x00\x00\x00\x05\x00\x00\x00\x00\x00\x00\x00\x00\x00\x00\x00\x00\x11\x22\x33\x44\x55\x66\x77\x88\x00\x01\x00\x07\x00\x00\x00\x00\x00\x00\x00\x00\x00\x00\x00\x00\x00\x00\x00\x00\x00\x00\x00\x00\x00\x00\x00\x00\x00\x00\x00\x00\x00\x00\x00\x00\x00\x00\x00\x00\x00\x00\x00\x00\x00\x00\x00\x00\x00\x00\x00\x00\x00\x00\x00\x00\x00\x00\x00\x00\x00\x00\x00\x00\x00\x00\x00\x00\x00\x00\x00\x00\xEB\x34\x8D\x31\xE1\xD9\xD7\xA0\xBD\x6A\x4F\x5B\x72\xC0\x37\xEF";
+
+    #[test]
+    fn a_signed_request_is_read_and_another_is_not(rt: HostRuntime) {
+        let block = block_key(b"Jefe");
+        let sender = SenderBase {
+            sequence: 5,
+            timestamp: [0x11, 0x22, 0x33, 0x44, 0x55, 0x66, 0x77, 0x88],
+            error: [0, 1],
+            ssid: 7,
+        };
+        assert_eq!(rt; read_auth(&block, REQUEST), Ok(sender));
+        assert_eq!(rt;
+            read_auth(&block_key(b"jefe"), REQUEST),
+            Err(AuthFault::BadHmac)
+        );
+        assert_eq!(rt; read_auth(&block, &[0; 111]), Err(AuthFault::Short));
+    }
+}

@@ -81,3 +81,29 @@ impl Walk<'_> {
         self.at
     }
 }
+
+#[cfg(test)]
+mod tests {
+    use super::*;
+
+    #[test]
+    fn a_walk_gives_whole_tlvs_and_then_the_rest(rt: HostRuntime) {
+        let mut walk = Walk::new(b"\x80\xC8\x00\x00\x20\x01\x00\x02\xAA\xBB\x80\x01\x00\x09\xAA");
+        let first = Span {
+            at: 0,
+            flags: 0x80,
+            kind: 0xC8,
+            len: 0,
+        };
+        let second = Span {
+            at: 4,
+            flags: 0x20,
+            kind: 1,
+            len: 2,
+        };
+        for (span, rest) in [(Some(first), 4), (Some(second), 10), (None, 10), (None, 10)] {
+            assert_eq!(rt; walk.next(), span);
+            assert_eq!(rt; walk.rest(), rest);
+        }
+    }
+}

@@ -89,3 +89,103 @@ pub fn write_test(extra: &Extra, reply: &ReplyBase, input: &[u8], out: &mut [u8]
     clear(out, end, len);
     len
 }
+
+#[cfg(test)]
+mod tests {
+    use super::*;
+    use stamp_packet::SenderBase;
+    use std::test::Fail;
+
+    const REPLY: ReplyBase = ReplyBase {
+        sequence: 0,
+        timestamp: [0; 8],
+        error: [0, 1],
+        ssid: 7,
+        received: [0; 8],
+        sender: SenderBase {
+            sequence: 5,
+            timestamp: [0; 8],
+            error: [0, 1],
+            ssid: 0,
+        },
+        ttl: 255,
+    };
+
+    #[test]
+    fn a_reply_has_its_length_and_reflects_as_much_as_it_may(rt: HostRuntime) -> Result<(), Fail> {
+        // symmetrical, reflect, length of the request, length of the reply, octets reflected
+        let cases: [(bool, u16, usize, usize, usize); 48] = [
+            (false, 0, 14, 41, 0),
+            (false, 0, 40, 41, 0),
+            (false, 0, 41, 41, 0),
+            (false, 0, 45, 45, 0),
+            (false, 0, 100, 100, 0),
+            (false, 0, 65507, 65507, 0),
+            (false, 4, 14, 41, 0),
+            (false, 4, 40, 45, 4),
+            (false, 4, 41, 45, 4),
+            (false, 4, 45, 45, 4),
+            (false, 4, 100, 100, 4),
+            (false, 4, 65507, 65507, 4),
+            (false, 65466, 14, 41, 0),
+            (false, 65466, 40, 67, 26),
+            (false, 65466, 41, 68, 27),
+            (false, 65466, 45, 72, 31),
+            (false, 65466, 100, 127, 86),
+            (false, 65466, 65507, 65507, 65466),
+            (false, 65535, 14, 41, 0),
+            (false, 65535, 40, 67, 26),
+            (false, 65535, 41, 68, 27),
+            (false, 65535, 45, 72, 31),
+            (false, 65535, 100, 127, 86),
+            (false, 65535, 65507, 65507, 65466),
+            (true, 0, 14, 41, 0),
+            (true, 0, 40, 41, 0),
+            (true, 0, 41, 41, 0),
+            (true, 0, 45, 45, 0),
+            (true, 0, 100, 100, 0),
+            (true, 0, 65507, 65507, 0),
+            (true, 4, 14, 41, 0),
+            (true, 4, 40, 41, 0),
+            (true, 4, 41, 41, 0),
+            (true, 4, 45, 45, 4),
+            (true, 4, 100, 100, 4),
+            (true, 4, 65507, 65507, 4),
+            (true, 65466, 14, 41, 0),
+            (true, 65466, 40, 41, 0),
+            (true, 65466, 41, 41, 0),
+            (true, 65466, 45, 45, 4),
+            (true, 65466, 100, 100, 59),
+            (true, 65466, 65507, 65507, 65466),
+            (true, 65535, 14, 41, 0),
+            (true, 65535, 40, 41, 0),
+            (true, 65535, 41, 41, 0),
+            (true, 65535, 45, 45, 4),
+            (true, 65535, 100, 100, 59),
+            (true, 65535, 65507, 65507, 65466),
+        ];
+        let mut out = vec![in rt.alloc(); 0xEE; 65_536]?;
+        for (symmetrical, reflect, len, want, reflected) in cases {
+            let extra = Extra {
+                symmetrical,
+                reflect,
+            };
+            let input = vec![in rt.alloc(); 0x11; len]?;
+            if input.len() < 14 || input.len() > 65_507 {
+                return Err("a length".into());
+            }
+            out.fill(0xEE);
+            let got = write_test(&extra, &REPLY, &input, &mut out);
+            assert_eq!(rt; got, want);
+            assert_eq!(rt;
+                out.iter().filter(|octet| **octet == 0x11).count(),
+                reflected
+            );
+            assert_eq!(rt;
+                out.iter().filter(|octet| **octet == 0xEE).count(),
+                65_536 - want
+            );
+        }
+        Ok(())
+    }
+}

@@ -12,8 +12,8 @@ returns c =
     let block = c.args.block.now in
     let len : length (auth_fields r) ≡ 96 = length_written (auth_fields r) old c.write_fields.new.out 96 c.write_fields.ensures (omega arith) (omega arith) in
     let mac : c.mac128-mac.result ≡ mac128_of block (auth_fields r) =
-        c.mac128-mac.ensures
-        ∙ ap (mac128_of block) (append-nil c.split_at.result.0.now ∙ c.split_at.ensures.front ∙ ap (take 96) c.write_fields.ensures ∙ take_at (auth_fields r) (drop 96 old) 96 len) in
+    c.mac128-mac.ensures
+    ∙ ap (mac128_of block) (append-nil c.split_at.result.0.now ∙ c.split_at.ensures.front ∙ ap (take 96) c.write_fields.ensures ∙ take_at (auth_fields r) (drop 96 old) 96 len) in
     let mac_len : length c.mac128-mac.result ≡ 16 = omega arith in
     let s1 : Has (auth_fields r) old c.write_fields.new.out 96 = record { parts = c.write_fields.ensures; len = len } in
     let s2 : Has (auth_reply block r) old c.put.new.out 112 = has_more (auth_fields r) old c.write_fields.new.out (mac128_of block (auth_fields r)) c.mac128-mac.result c.put.new.out 96 16 112 s1 mac c.put.ensures (sym (ap length mac) ∙ mac_len) refl in
