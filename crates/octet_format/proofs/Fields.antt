@@ -61,3 +61,28 @@ written_from at old given text fits e =
     take_all (x ∷ l) = ap (λ (r : List ℕ). x ∷ r) (take_all l)
     drop_past : (n : ℕ) (l : List ℕ) → length l ≤ n → drop n l ≡ []
     drop_past n l le = nil_from_length (drop n l) (omega (arith, length-drop n l))
+
+
+-- before the first field, what stands before it
+pub has_front : (old : List ℕ) (at : ℕ) → at ≤ length old → Has (take at old) old old at
+has_front old at le = record { parts = sym (take-append-drop at old); len = length-take-le at old le }
+
+-- a slice keeps its length, so what was written has the length of what it stands for
+pub length_written : (front old new : List ℕ) (at : ℕ) → new ≡ front ++ drop at old → length new ≡ length old → at ≤ length old → length front ≡ at
+length_written front old new at e same le = omega (arith, ap length e, length-append front (drop at old), length-drop at old)
+
+pub length_put : (field old new : List ℕ) (at next : ℕ) → new ≡ take at old ++ field ++ drop next old → length new ≡ length old → at ≤ next → next ≤ length old → at + length field ≡ next
+length_put field old new at next e same le lt = omega (arith, ap length e, length-append (take at old ++ field) (drop next old), length-append (take at old) field, length-take-le at old (omega arith), length-drop next old)
+
+-- what was written at its place, after a front
+pub has_put : (front old cur field new : List ℕ) (at next : ℕ) → Has front old cur at → new ≡ take at cur ++ field ++ drop next cur → length new ≡ length cur → at ≤ next → next ≤ length cur → Has (front ++ field) old new next
+has_put front old cur field new at next has e same le lt =
+    let len : at + length field ≡ next = length_put field cur new at next e same le lt in
+    has_more front old cur field field new at (length field) next has refl (e ∙ ap (λ (n : ℕ). take at cur ++ field ++ drop n cur) (sym len)) refl len
+
+-- what stays between two fields
+pub has_same : (front old cur : List ℕ) (at n next : ℕ) → Has front old cur at → at + n ≡ next → next ≤ length old → Has (front ++ field at n old) old cur next
+has_same front old cur at n next has sum le = record {
+  parts = has.parts ∙ ap (λ (rest : List ℕ). front ++ rest) (cut at n next old sum) ∙ sym (append_assoc front (field at n old) (drop next old));
+  len = omega (arith, length-append front (field at n old), length-field at n old (omega arith), has.len);
+}
