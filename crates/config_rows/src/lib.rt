@@ -2,7 +2,9 @@
 #![tactic(auto)]
 
 mod book;
+mod laws;
 mod words;
 
 pub use book::{RowBook, Sought};
+pub use laws::law_words;
 pub use words::{from_words, to_words};
