@@ -1,17 +1,17 @@
 -- Configurations in words and back.
-use Rattle.std.proofs.Common.{◌≡◌, ℕ, zero, suc, ◌+◌, ◌*◌, ◌/◌, ◌%◌, ◌^◌, ◌<◌, ◌≤◌, ◌==◌, Bool, true, false, not, List, [], ◌∷◌, ◌++◌, length, take, drop, get_or, Option, Some, None, Result, Ok, Err, refl, sym, ap, subst, ◌∙◌, arith, eqb, ltb, cond, ◌↔◌, replicate, ne_eqb}
+use Rattle.std.proofs.Common.{◌≡◌, ℕ, zero, suc, ◌+◌, ◌*◌, ◌/◌, ◌%◌, ◌^◌, ◌<◌, ◌≤◌, ◌==◌, Bool, true, false, List, [], ◌∷◌, ◌++◌, length, take, drop, get_or, Option, Some, None, Ok, refl, sym, ap, subst, ◌∙◌, arith, eqb, ltb, replicate, ne_eqb}
 use Rattle.std.proofs.lemmas.Bool.{eqb-true, le-ltb}
 use Rattle.std.specs.Int.{w32, w64, from_be_bytes, to_be_bytes}
-use Rattle.std.proofs.lemmas.List.{take-append-drop, length-take, length-drop, get_or-take, take_all, drop-drop}
+use Rattle.std.proofs.lemmas.List.{take-append-drop, length-take, length-drop, take_all, drop-drop}
 use Rattle.std.proofs.lemmas.Nat.{be_bytes_4, be_bytes_8}
-use Rattle.octet_format.specs.Octets.{IsBytes, IsArray}
+use Rattle.octet_format.specs.Octets.{IsBytes}
 use Rattle.octet_format.proofs.Obeys.{IsBytes-take, IsBytes-drop}
 use Rattle.refl_types.specs.declared.config.Clock.{Clock}
 use Rattle.refl_types.specs.declared.config.Clock.TheVariants.{Ntp, Ptp}
 use Rattle.refl_types.specs.declared.config.ConfigParts.{ConfigParts}
-use Rattle.refl_types.specs.Configs.{IsConfig, config_made, are_known_tlvs}
+use Rattle.refl_types.specs.Configs.{IsConfig, config_made}
 use Rattle.refl_types.specs.Spelling.{flag, is_ptp, has, config_flags, block_octets, FitsBlock, FitsConfig}
-use Rattle.config_rows.specs.Words.{words_of, octets_of, row_words, AreConfigWords, clock_of, key_of, config_of, config_of_words}
+use Rattle.config_rows.specs.Words.{words_of, octets_of, row_words, AreConfigWords, clock_of, key_of, config_of_words}
 
 -- ---- octets in words
 

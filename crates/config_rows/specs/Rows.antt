@@ -1,5 +1,5 @@
 -- The configurations that have rows: a list without repeats, and how many it may hold. Rows are numbered from 1.
-use Rattle.std.specs.Prelude.{◌≡◌, ℕ, suc, ◌-◌, ◌<◌, ◌≤◌, ◌^◌, List, length, slice_get, Option, Some}
+use Rattle.std.specs.Prelude.{◌≡◌, ℕ, suc, ◌-◌, ◌<◌, ◌≤◌, ◌^◌, List, length, slice_get, Some}
 use Rattle.refl_types.specs.declared.config.ConfigParts.{ConfigParts}
 use Rattle.config_rows.specs.declared.book.Sought.{Sought}
 use Rattle.config_rows.specs.declared.book.Sought.TheVariants.{Known, Next, RowsFull}

@@ -58,6 +58,7 @@ mod tests {
             (1, PEER, 28, Mode::Plain, 7, false),
             (0, OTHER, 28, Mode::Plain, 7, false),
         ] {
+            let front = octets.get(..len).expect(&rt, "octets");
             let meta = Meta {
                 local,
                 peer,
@@ -65,11 +66,7 @@ mod tests {
                 ttl: None,
                 arrival: 0,
             };
-            assert_eq!(rt;
-                matches(&meta, &octets[..len], &key(mode, ssid)),
-                want,
-                "{len}"
-            );
+            assert_eq!(rt; matches(&meta, front, &key(mode, ssid)), want, "{len}");
         }
     }
 

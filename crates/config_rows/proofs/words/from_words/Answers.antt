@@ -1,5 +1,4 @@
-use Rattle.std.proofs.Common.{◌≡◌, ℕ, get_or, Ok, Err, refl, sym, ap, ◌∙◌, arith}
-use Rattle.config_rows.specs.Words.{config_of_words}
+use Rattle.std.proofs.Common.{sym, ◌∙◌, arith}
 use Rattle.config_rows.proofs.WordLaws.{numbers, made_back, parts_are}
 use Rattle.config_rows.proofs.words.from_words.Goals as goal
 

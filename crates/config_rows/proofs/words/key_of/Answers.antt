@@ -1,4 +1,4 @@
-use Rattle.std.proofs.Common.{◌≡◌, ℕ, Bool, true, List, Some, refl, sym, ap, ◌∙◌}
+use Rattle.std.proofs.Common.{ℕ, Bool, List, Some, sym, ap, ◌∙◌}
 use Rattle.config_rows.specs.Words.{key_of}
 use Rattle.config_rows.proofs.words.key_of.Goals as goal
 

@@ -1,5 +1,5 @@
-use Rattle.std.proofs.Common.{◌≡◌, ℕ, List, ◌∷◌, [], drop, take, refl, sym, ap, ◌∙◌, subst}
-use Rattle.std.specs.Int.{w32, w64, from_be_bytes}
+use Rattle.std.proofs.Common.{◌≡◌, ℕ, List, ◌∷◌, [], sym, ap, ◌∙◌, subst}
+use Rattle.std.specs.Int.{w32, from_be_bytes}
 use Rattle.refl_types.specs.declared.config.ConfigParts.{ConfigParts}
 use Rattle.refl_types.specs.Spelling.{config_flags, block_octets}
 use Rattle.config_rows.specs.Words.{row_words, words_of, AreConfigWords}

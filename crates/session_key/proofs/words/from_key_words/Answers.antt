@@ -1,4 +1,4 @@
-use Rattle.std.proofs.Common.{◌≡◌, ℕ, ◌/◌, ◌%◌, ◌^◌, get_or, refl, ◌∙◌, arith}
+use Rattle.std.proofs.Common.{◌/◌, ◌%◌, ◌^◌, get_or, refl, ◌∙◌, arith}
 use Rattle.refl_types.specs.Keys.{is_sound}
 use Rattle.session_key.specs.Words.{key_of_words, extra_of_words}
 use Rattle.session_key.proofs.WordLaws.{key_words_fit}

@@ -1,7 +1,7 @@
-use Rattle.std.proofs.Common.{◌≡◌, ℕ, ◌+◌, ◌*◌, ◌%◌, ◌^◌, Bool, List, [], ◌∷◌, take, drop, refl, sym, ap, subst, ◌∙◌, arith}
+use Rattle.std.proofs.Common.{◌≡◌, ℕ, Bool, List, [], ◌∷◌, take, drop, sym, ap, subst, ◌∙◌, arith}
 use Rattle.std.specs.Int.{w64, from_be_bytes}
 use Rattle.byteorder.specs.Endian.{big_number}
-use Rattle.refl_types.specs.Spelling.{address_octets, flag, FitsSession}
+use Rattle.refl_types.specs.Spelling.{address_octets, FitsSession}
 use Rattle.session_key.specs.Words.{key_words, ends_word, AreKeyWords}
 use Rattle.session_key.proofs.WordLaws.{first_word, are_key_words}
 use Rattle.session_key.proofs.words.key_words.Goals as goal

@@ -1,5 +1,4 @@
-use Rattle.std.proofs.Common.{◌≡◌, ℕ, arith, rules, subst, sym, refl, ap, ◌∙◌, suc}
-use Rattle.config_rows.specs.Rows.{Rows, IsRow, IsNext, HasNoRow}
+use Rattle.std.proofs.Common.{arith}
 use Rattle.config_rows.proofs.book.RowBook.seek.Goals as goal
 
 pub overflow_cast-result : goal.overflow_cast-result

@@ -1,4 +1,4 @@
-use Rattle.std.proofs.Common.{◌≡◌, ℕ, ◌≤◌}
+use Rattle.std.proofs.Common.{ℕ, ◌≤◌}
 use Rattle.config_rows.specs.Rows.{IsRow}
 use Rattle.config_rows.proofs.book.RowBook.seek.Given as goal
 
