@@ -1,0 +1,9 @@
+//! The pure core of the session table: the atomic steps of the desk and of the workers, the schedules that run,
+//! and the one-thread table of sessions whose histories explain them.
+#![tactic(auto)]
+
+mod laws;
+mod steps;
+
+pub use session_key::Query;
+pub use steps::{Actor, Part, Step, TableSize};
