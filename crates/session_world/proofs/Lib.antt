@@ -1,0 +1,9 @@
+pub mod Tests
+pub mod KeyFacts
+pub mod Walks
+pub mod LegalHistories
+pub mod DeskFacts
+pub mod SlotFacts
+pub mod Fits
+pub mod Holding
+pub mod Sound
