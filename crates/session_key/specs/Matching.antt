@@ -1,5 +1,5 @@
 -- Which datagrams are of which session (RFC 8972, section 3).
-use Rattle.std.specs.Prelude.{ℕ, ◌+◌, nat_le, ◌==◌, Bool, true, false, ◌&&◌, ◌||◌, not, if◌then◌else◌, List, length, take, drop, Option, Some, None}
+use Rattle.std.specs.Prelude.{ℕ, ◌+◌, nat_lt, ◌==◌, Bool, true, false, ◌&&◌, ◌||◌, not, if◌then◌else◌, List, length, take, drop, Option, Some, None}
 use Rattle.std.specs.Int.{w16, from_be_bytes}
 use Rattle.refl_types.specs.declared.types.Endpoint.{Endpoint}
 use Rattle.refl_types.specs.declared.types.Mode.{Mode}
@@ -10,7 +10,7 @@ use Rattle.session_key.specs.declared.matching.Query.{Query}
 
 -- the number in the two octets from a place on, where both are there
 unfoldable pub ssid_at : ℕ → List ℕ → Option ℕ
-ssid_at at octets = if nat_le (at + 2) (length octets) then Some (from_be_bytes w16 (take 2 (drop at octets))) else None
+ssid_at at octets = if nat_lt (length octets) (at + 2) then None else Some (from_be_bytes w16 (take 2 (drop at octets)))
 
 -- The SSID stands in octets 14 and 15 of an unauthenticated packet, in octets 26 and 27 of an authenticated one
 -- (RFC 8972, section 3, figures 1 and 3)

@@ -16,15 +16,18 @@ abbrev pub is_v6 : Address → Bool
 is_v6 (V4 a) = false
 is_v6 (V6 a) = true
 
-abbrev pub tail_word : Key → ℕ
-tail_word k = k.peer.port * 2 ^ 48 + k.ssid * 2 ^ 32 + k.local * 2 ^ 16 + mode_code k.mode * 2 + flag (is_v6 k.peer.address)
+abbrev pub ends_word : (port ssid local : ℕ) → Mode → Bool → ℕ
+ends_word port ssid local mode v6 = port * 2 ^ 48 + ssid * 2 ^ 32 + local * 2 ^ 16 + mode_code mode * 2 + flag v6
+
+abbrev pub extra_word : ℕ → Bool → ℕ
+extra_word reflect symmetrical = reflect * 2 + flag symmetrical
 
 unfoldable pub key_words : Key → Extra → List ℕ
 key_words k x =
     from_be_bytes w64 (take 8 (address_octets k.peer.address))
     ∷ from_be_bytes w64 (drop 8 (address_octets k.peer.address))
-    ∷ tail_word k
-    ∷ (x.reflect * 2 + flag x.symmetrical)
+    ∷ ends_word k.peer.port k.ssid k.local k.mode (is_v6 k.peer.address)
+    ∷ extra_word x.reflect x.symmetrical
     ∷ []
 
 -- four words that are those of a key and an extra that a session may have

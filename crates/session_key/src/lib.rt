@@ -2,6 +2,7 @@
 #![tactic(auto)]
 
 mod matching;
+mod octets;
 mod placing;
 mod words;
 

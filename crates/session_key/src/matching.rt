@@ -1,7 +1,7 @@
 //! Which datagrams are of which session (RFC 8972, section 3).
 
-ghost use Rattle.std.specs.Prelude.{◌≡◌};
-ghost use Rattle.session_key.specs.Matching.{query_of, matches};
+ghost use Rattle.std.specs.Prelude.{◌≡◌, ◌<◌, ◌^◌};
+ghost use Rattle.session_key.specs.Matching.{ssid_at, query_of, matches};
 
 use refl_types::{Endpoint, Key, Meta, Mode};
 
@@ -18,30 +18,35 @@ pub struct Query {
     pub auth: Option<u16>,
 }
 
+/// The number in the two octets from a place on, where both are there.
+#[tactic(auto, unfolding(crate::specs::Matching::ssid_at))]
+fn ssid_at(at: usize, octets: &[u8]) -> Option<u16>
+    requires { at < 2 ^ 32 }
+    ensures { result ≡ ssid_at at octets.now }
+{
+    if octets.len() < at + 2 {
+        return None;
+    }
+    let ssid = &octets[at..at + 2];
+    Some(u16::from_be_bytes([ssid[0], ssid[1]]))
+}
+
 impl Query {
     /// The query of a datagram.
+    #[tactic(auto, unfolding(crate::specs::Matching::query_of))]
     pub fn of(meta: &Meta, octets: &[u8]) -> Query
         ensures { result ≡ query_of meta.now.local meta.now.peer octets.now }
     {
-        let plain = if octets.len() >= 16 {
-            Some(u16::from_be_bytes([octets[14], octets[15]]))
-        } else {
-            None
-        };
-        let auth = if octets.len() >= 28 {
-            Some(u16::from_be_bytes([octets[26], octets[27]]))
-        } else {
-            None
-        };
         Query {
             local: meta.local,
             peer: meta.peer,
-            plain,
-            auth,
+            plain: ssid_at(14, octets),
+            auth: ssid_at(26, octets),
         }
     }
 
     /// Whether the datagram is one of the session with this key.
+    #[tactic(auto, unfolding(crate::specs::Matching::matches))]
     pub fn matches(&self, key: &Key) -> bool
         ensures { result ≡ matches self.now key.now }
     {

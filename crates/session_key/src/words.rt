@@ -1,38 +1,74 @@
 //! A key and its extra in four words.
 
-ghost use Rattle.std.specs.Prelude.{◌≡◌};
-ghost use Rattle.session_key.specs.Words.{key_words, AreKeyWords, key_of_words, extra_of_words};
+ghost use Rattle.std.specs.Prelude.{◌≡◌, ◌<◌};
+ghost use Rattle.session_key.specs.Words.{key_words, AreKeyWords, key_of_words, extra_of_words, address_of, mode_of, ends_word, extra_word};
+ghost use Rattle.refl_types.specs.Spelling.{mode_code};
 
+use crate::octets::address_octets;
+use byteorder::{BigEndian, ByteOrder};
 use refl_types::{Address, Endpoint, Extra, Key, Mode};
+
+fn mode_code(mode: Mode) -> u64
+    ensures value { result ≡ mode_code mode }
+    ensures range { result < 3 }
+{
+    match mode {
+        Mode::Plain => 0,
+        Mode::Auth => 1,
+        Mode::Twamp => 2,
+    }
+}
+
+fn mode_of(code: u64) -> Mode
+    ensures { result ≡ mode_of code }
+{
+    match code {
+        0 => Mode::Plain,
+        1 => Mode::Auth,
+        _ => Mode::Twamp,
+    }
+}
+
+fn address_of(first: u64, second: u64, is_v6: bool) -> Address
+    ensures { result ≡ address_of first second is_v6 }
+{
+    let mut octets = [0; 16];
+    BigEndian::write_u64(&mut octets, first);
+    BigEndian::write_u64(&mut octets[8..], second);
+    if is_v6 {
+        Address::V6(octets)
+    } else {
+        Address::V4([octets[0], octets[1], octets[2], octets[3]])
+    }
+}
+
+fn ends_word(port: u16, ssid: u16, local: u16, mode: Mode, is_v6: bool) -> u64
+    ensures { result ≡ ends_word port ssid local mode is_v6 }
+{
+    (u64::from(port) << 48)
+        + (u64::from(ssid) << 32)
+        + (u64::from(local) << 16)
+        + (mode_code(mode) << 1)
+        + u64::from(is_v6)
+}
+
+fn extra_word(reflect: u16, symmetrical: bool) -> u64
+    ensures { result ≡ extra_word reflect symmetrical }
+{
+    (u64::from(reflect) << 1) + u64::from(symmetrical)
+}
 
 /// The four words of a key and an extra.
 pub fn key_words(key: &Key, extra: &Extra) -> [u64; 4]
     ensures { result ≡ key_words key.now extra.now }
 {
-    let (first, second, family) = match &key.peer.address {
-        Address::V4(a) => (
-            u64::from_be_bytes([a[0], a[1], a[2], a[3], 0, 0, 0, 0]),
-            0,
-            0,
-        ),
-        Address::V6(a) => (
-            u64::from_be_bytes([a[0], a[1], a[2], a[3], a[4], a[5], a[6], a[7]]),
-            u64::from_be_bytes([a[8], a[9], a[10], a[11], a[12], a[13], a[14], a[15]]),
-            1,
-        ),
-    };
-    let mode = match key.mode {
-        Mode::Plain => 0,
-        Mode::Auth => 1,
-        Mode::Twamp => 2,
-    };
-    let ends = u64::from(key.peer.port) << 48
-        | u64::from(key.ssid) << 32
-        | u64::from(key.local) << 16
-        | mode << 1
-        | family;
-    let agreed = u64::from(extra.reflect) << 1 | u64::from(extra.symmetrical);
-    [first, second, ends, agreed]
+    let (octets, is_v6) = address_octets(&key.peer.address);
+    [
+        BigEndian::read_u64(&octets),
+        BigEndian::read_u64(&octets[8..]),
+        ends_word(key.peer.port, key.ssid, key.local, key.mode, is_v6),
+        extra_word(extra.reflect, extra.symmetrical),
+    ]
 }
 
 /// The key and the extra of four words.
@@ -41,20 +77,19 @@ pub fn from_key_words(words: &[u64; 4]) -> (Key, Extra)
     ensures key { result.0 ≡ key_of_words words.now }
     ensures extra { result.1 ≡ extra_of_words words.now }
 {
-    let octets = words[0].to_be_bytes();
-    let address = Address::V4([octets[0], octets[1], octets[2], octets[3]]);
+    let [first, second, ends, agreed] = *words;
     let key = Key {
-        local: (words[2] >> 16) as u16,
+        local: (ends / 65536 % 65536) as u16,
         peer: Endpoint {
-            address,
-            port: (words[2] >> 48) as u16,
+            address: address_of(first, second, ends % 2 == 1),
+            port: (ends / 281474976710656) as u16,
         },
-        mode: Mode::Plain,
-        ssid: (words[2] >> 32) as u16,
+        mode: mode_of(ends / 2 % 32768),
+        ssid: (ends / 4294967296 % 65536) as u16,
     };
     let extra = Extra {
-        symmetrical: words[3] % 2 == 1,
-        reflect: (words[3] / 2) as u16,
+        symmetrical: agreed % 2 == 1,
+        reflect: (agreed / 2) as u16,
     };
     (key, extra)
 }
