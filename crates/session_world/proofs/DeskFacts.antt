@@ -146,7 +146,7 @@ pub config_same : (f g : ℕ → ℕ) → ((k : ℕ) → f k ≡ g k) → config
 unfolding config_of
 config_same f g e = ap config_of_words (row_list_same f g e)
 
-is_config_same : (f g : ℕ → ℕ) → ((k : ℕ) → f k ≡ g k) → IsConfigRow f → IsConfigRow g
+pub is_config_same : (f g : ℕ → ℕ) → ((k : ℕ) → f k ≡ g k) → IsConfigRow f → IsConfigRow g
 unfolding IsConfigRow
 is_config_same f g e h = subst AreConfigWords (row_list_same f g e) h
 

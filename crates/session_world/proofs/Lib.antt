@@ -7,3 +7,4 @@ pub mod SlotFacts
 pub mod Fits
 pub mod Holding
 pub mod Sound
+pub mod ReadWords
