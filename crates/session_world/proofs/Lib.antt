@@ -8,3 +8,5 @@ pub mod Fits
 pub mod Holding
 pub mod Sound
 pub mod ReadWords
+pub mod Histories
+pub mod Tied
