@@ -10,3 +10,4 @@ pub mod Sound
 pub mod ReadWords
 pub mod Histories
 pub mod Tied
+pub mod Spans
