@@ -11,3 +11,5 @@ pub mod ReadWords
 pub mod Histories
 pub mod Tied
 pub mod Spans
+pub mod Workers
+pub mod Looks
