@@ -13,3 +13,6 @@ pub mod Tied
 pub mod Spans
 pub mod Workers
 pub mod Looks
+pub mod KeyLoads
+pub mod Holds
+pub mod Draws
