@@ -5,9 +5,9 @@
 ghost use Rattle.std.specs.Prelude.{◌≡◌, ◌<◌, not};
 ghost use Rattle.slot_word.specs.Fields.{sequence_in, generation_in, row_in, is_open_word, word_of};
 
-mod laws;
+mod field_laws;
 
-pub use laws::{law_closed, law_draw, law_exchange, law_fields};
+pub use field_laws::{law_closed, law_draw, law_exchange, law_fields};
 
 /// How many bits of a word the row takes.
 pub const ROW_BITS: u32 = 15;
