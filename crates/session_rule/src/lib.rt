@@ -22,3 +22,6 @@ pub use splitting::{join_worker, split_worker};
 pub use worker_steps::{
     announce, draw_slot, load_key_word, load_row_word, look, retire_announcement,
 };
+
+#[cfg(test)]
+mod tests;
