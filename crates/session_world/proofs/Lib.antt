@@ -16,3 +16,4 @@ pub mod Looks
 pub mod KeyLoads
 pub mod Holds
 pub mod Draws
+pub mod DeskSteps
