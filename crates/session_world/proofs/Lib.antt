@@ -17,3 +17,6 @@ pub mod KeyLoads
 pub mod Holds
 pub mod Draws
 pub mod DeskSteps
+pub mod Sessions
+pub mod Seatings
+pub mod Schedules
