@@ -1,33 +1,32 @@
 -- Steps of the desk that open and close nothing keep what ties the state to a history.
-use Rattle.std.proofs.Common.{◌≡◌, ◌≢◌, ◌⊎◌, inl, inr, ⊎_elim, ℕ, zero, suc, ◌+◌, ◌*◌, ◌%◌, ◌^◌, ◌<◌, ◌≤◌, ◌==◌, Bool, true, false, ◌&&◌, not, if◌then◌else◌, List, [], ◌∷◌, ◌++◌, length, get_or, get_or-set_other, get_or-set_same, set, sym, refl, ap, ◌∙◌, subst, arith, eq-eqb, ne_eqb, Option, Some}
-use Rattle.std.proofs.lemmas.Bool.{eqb-true}
+use Rattle.std.proofs.Common.{◌≡◌, ◌≢◌, inr, ⊎_elim, ℕ, suc, ◌<◌, ◌==◌, Bool, true, false, ◌&&◌, not, List, [], ◌∷◌, ◌++◌, get_or, get_or-set_other, get_or-set_same, set, sym, refl, ap, ◌∙◌, subst, arith, eq-eqb, ne_eqb, Some}
 use lib.Seq.{set-get_or}
-use Rattle.slot_word.specs.Fields.{sequence_in, generation_in, row_in, is_open_word}
-use Rattle.slot_word.proofs.Laws.{Exchanged, exchanged}
+use Rattle.slot_word.specs.Fields.{sequence_in, row_in}
+use Rattle.slot_word.proofs.Laws.{exchanged}
 use Rattle.refl_types.specs.Same.{same_key}
 use Rattle.session_key.specs.Matching.{excludes}
 use Rattle.session_world.specs.declared.steps.TableSize.{TableSize}
 use Rattle.session_world.specs.declared.steps.Step.{Step}
-use Rattle.session_world.specs.declared.steps.Step.TheVariants.{WriteRow, WriteKey, ReserveNew, Start, Split, Reconfigure, Close, Peek, Expire, Join, Scan, ReserveUsed}
+use Rattle.session_world.specs.declared.steps.Step.TheVariants.{WriteRow, WriteKey, ReserveNew, Split, Reconfigure, Peek, Expire, Join, Scan, ReserveUsed}
 use Rattle.session_world.specs.Sizes.{IsWithinLimits}
 use Rattle.session_world.specs.Keys.{Key}
-use Rattle.session_world.specs.Words.{slot_at, key_at, row_at, announced_at, word_index, word_after, words_after}
+use Rattle.session_world.specs.Words.{slot_at, key_at, row_at, announced_at, word_after, words_after}
 use Rattle.session_world.specs.Desk.{is_open, generation_of, row_of, key_word_of, key_of_slot, is_split}
 use Rattle.session_world.specs.Worker.{LastLook, last_look}
 use Rattle.session_world.specs.Answers.{Answer, configured, counted, desk_gives, answers_at_split, expire_gives}
 use Rattle.session_world.specs.Allowed.{DeskMay}
 use Rattle.session_world.specs.Runs.{CoreState, parts_after, state_after}
-use Rattle.session_world.specs.History.{Session, Event, reconfigured, map_after, IsLegal}
+use Rattle.session_world.specs.History.{Event, reconfigured, map_after, IsLegal}
 use Rattle.session_world.specs.Explains.{with_wrapped_counts, answers_in, desk_events_before, last_of, NoOpenBetween}
-use Rattle.session_world.proofs.Tests.{true_ne_false, bool, and_i, number_case, if_yes, if_no}
+use Rattle.session_world.proofs.Tests.{true_ne_false, bool, number_case, if_yes, if_no}
 use Rattle.session_world.proofs.KeyFacts.{same_key_eq, same_key_refl, excludes_self}
 use Rattle.session_world.proofs.LegalHistories.{was_reconfigured}
-use Rattle.session_world.proofs.DeskFacts.{DeskDid, open_used, open_inside, row_fits}
+use Rattle.session_world.proofs.DeskFacts.{open_used, open_inside, row_fits}
 use Rattle.session_world.proofs.SlotFacts.{in_use_was, open_alone}
-use Rattle.session_world.proofs.Holding.{HeldSlot, Guard, Spared, spared, spares}
+use Rattle.session_world.proofs.Holding.{HeldSlot, Spared, spared, spares}
 use Rattle.session_world.proofs.Sound.{IsSound}
-use Rattle.session_world.proofs.Histories.{any_row, RowMap, Who, NotOpens, keeps_other}
-use Rattle.session_world.proofs.Tied.{who, IsHolding, LookFits, IsBoundSlot, LooksFit, Tied, IsSameSlot, StaysOpen, key_same, extra_same, look_cons, look_same}
+use Rattle.session_world.proofs.Histories.{any_row, keeps_other}
+use Rattle.session_world.proofs.Tied.{who, IsHolding, LookFits, IsBoundSlot, LooksFit, Tied, key_same, extra_same, look_cons, look_same}
 use Rattle.session_world.proofs.Spans.{IsPlain, plain_own, plain_order}
 use Rattle.session_world.proofs.Workers.{live_holds}
 

@@ -20,3 +20,4 @@ pub mod DeskSteps
 pub mod Sessions
 pub mod Seatings
 pub mod Schedules
+pub mod Configs

@@ -1,19 +1,18 @@
 -- A history over rows explains each schedule that runs.
-use Rattle.std.proofs.Common.{◌≡◌, ⊎_elim, ℕ, zero, suc, ◌<◌, ◌==◌, Bool, true, false, List, [], ◌∷◌, get_or, sym, refl, subst, arith, Option, Some, None}
-use Rattle.slot_word.specs.Fields.{is_open_word}
+use Rattle.std.proofs.Common.{◌≡◌, ⊎_elim, ℕ, zero, suc, ◌==◌, true, false, List, [], ◌∷◌, get_or, sym, refl, subst, Option, Some, None}
 use Rattle.session_world.specs.declared.steps.TableSize.{TableSize}
 use Rattle.session_world.specs.declared.steps.Step.{Step}
 use Rattle.session_world.specs.declared.steps.Step.TheVariants.{WriteRow, WriteKey, ReserveNew, Start, Look, LoadKey, Draw, Split, LoadRow, Reconfigure, Close, Peek, Expire, Join, Announce, Retire, Scan, ReserveUsed}
 use Rattle.session_world.specs.Sizes.{IsWithinLimits}
 use Rattle.session_world.specs.Words.{slot_at, word_index, HasRead}
 use Rattle.session_world.specs.Desk.{is_split}
-use Rattle.session_world.specs.Worker.{LastLook, has_key_words, key_matches, last_look}
+use Rattle.session_world.specs.Worker.{LastLook, last_look}
 use Rattle.session_world.specs.Allowed.{DeskMay, HasSeen, WorkerMay, IsAllowed}
 use Rattle.session_world.specs.Runs.{CoreState, state_after, first_state, own_steps, ScheduledStep, run, Runs}
-use Rattle.session_world.specs.History.{Event, map_after}
+use Rattle.session_world.specs.History.{Event}
 use Rattle.session_world.specs.Explains.{answers, answers_in}
 use Rattle.session_world.proofs.Tests.{true_ne_false, bool, some_none}
-use Rattle.session_world.proofs.Sound.{IsSound, step_sound, run_sound}
+use Rattle.session_world.proofs.Sound.{IsSound, run_sound}
 use Rattle.session_world.proofs.Tied.{IsHolding, HasSight, Tied}
 use Rattle.session_world.proofs.Looks.{look_keeps}
 use Rattle.session_world.proofs.KeyLoads.{key_keeps}

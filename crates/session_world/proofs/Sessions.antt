@@ -1,8 +1,7 @@
 -- Starting, closing and expiring a session keep what ties the state to a history.
-use Rattle.std.proofs.Common.{◌≡◌, ◌≢◌, ◌⊎◌, inl, inr, ⊎_elim, ℕ, zero, suc, ◌-◌, ◌%◌, ◌^◌, ◌<◌, ◌≤◌, ◌==◌, Bool, true, false, ◌&&◌, ◌||◌, not, if◌then◌else◌, List, [], ◌∷◌, ◌++◌, get_or, get_or-set_other, get_or-set_same, set, sym, refl, ap, ◌∙◌, subst, arith, eq-eqb, ne_eqb, Option, Some, None}
-use Rattle.std.proofs.lemmas.Bool.{eqb-true}
+use Rattle.std.proofs.Common.{◌≡◌, ◌≢◌, inl, inr, ⊎_elim, ℕ, suc, ◌≤◌, ◌==◌, Bool, true, false, ◌&&◌, not, if◌then◌else◌, List, ◌∷◌, get_or, get_or-set_other, get_or-set_same, set, sym, refl, ap, ◌∙◌, subst, arith, eq-eqb, ne_eqb, Some, None}
 use Rattle.slot_word.specs.Fields.{sequence_in, row_in}
-use Rattle.slot_word.proofs.Laws.{Keeps, opening_keeps}
+use Rattle.slot_word.proofs.Laws.{opening_keeps}
 use Rattle.refl_types.specs.Same.{same_key}
 use Rattle.session_key.specs.Matching.{excludes, matches}
 use Rattle.session_world.specs.declared.steps.TableSize.{TableSize}
@@ -16,14 +15,14 @@ use Rattle.session_world.specs.Answers.{Answer, opened, closed, expired, expire_
 use Rattle.session_world.specs.Allowed.{DeskMay}
 use Rattle.session_world.specs.Runs.{CoreState, state_after}
 use Rattle.session_world.specs.History.{Session, Event, map_after, Has, NoMatch}
-use Rattle.session_world.specs.Explains.{with_wrapped_counts, answers_in, desk_count, opens, last_of}
-use Rattle.session_world.proofs.Tests.{true_ne_false, bool, both, either_of, or_l, or_r, not_equal, number_case, some_none, if_yes, if_no}
-use Rattle.session_world.proofs.KeyFacts.{IsSoundKey, same_key_eq, same_key_refl, excludes_self, excludes_turn, matches_exclude, words_sound, words_sound_key}
-use Rattle.session_world.proofs.DeskFacts.{open_inside, reserved_closed}
+use Rattle.session_world.specs.Explains.{answers_in, desk_count, opens, last_of}
+use Rattle.session_world.proofs.Tests.{true_ne_false, bool, both, or_l, or_r, not_equal, number_case, some_none, if_yes, if_no}
+use Rattle.session_world.proofs.KeyFacts.{IsSoundKey, same_key_eq, same_key_refl, excludes_self, matches_exclude, words_sound, words_sound_key}
+use Rattle.session_world.proofs.DeskFacts.{open_inside}
 use Rattle.session_world.proofs.SlotFacts.{use_sound, open_alone}
 use Rattle.session_world.proofs.Sound.{IsSound}
 use Rattle.session_world.proofs.Histories.{Any, NotOpens, point_map, keeps_other}
-use Rattle.session_world.proofs.Tied.{SeenAt, Clear, Gap, Ahead, who, from_low, IsHolding, HasSight, LookFits, IsSessionOf, IsBoundSlot, IsSlotOf, Tied, IsSameSlot, StaysOpen, look_cons, look_same}
+use Rattle.session_world.proofs.Tied.{SeenAt, Clear, Gap, Ahead, who, from_low, LookFits, IsSessionOf, IsBoundSlot, IsSlotOf, Tied, look_cons, look_same}
 use Rattle.session_world.proofs.Spans.{plain_own, plain_order}
 use Rattle.session_world.proofs.DeskSteps.{plain_looks}
 

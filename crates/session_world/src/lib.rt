@@ -5,6 +5,6 @@
 mod laws;
 mod steps;
 
-pub use laws::{law_draws, law_held, law_one_match, law_words};
+pub use laws::{law_draws, law_explained, law_held, law_one_match, law_words};
 pub use session_key::Query;
 pub use steps::{Actor, Part, Step, TableSize};
