@@ -1,5 +1,5 @@
 -- The configurations that have rows: a list without repeats, and how many it may hold. Rows are numbered from 1.
-use Rattle.std.specs.Prelude.{◌≡◌, ℕ, suc, ◌-◌, ◌<◌, ◌≤◌, List, length, slice_get, Option, Some}
+use Rattle.std.specs.Prelude.{◌≡◌, ℕ, suc, ◌-◌, ◌<◌, ◌≤◌, ◌^◌, List, length, slice_get, Some}
 use Rattle.refl_types.specs.declared.config.ConfigParts.{ConfigParts}
 use Rattle.config_rows.specs.declared.book.Sought.{Sought}
 use Rattle.config_rows.specs.declared.book.Sought.TheVariants.{Known, Next, RowsFull}
@@ -19,6 +19,7 @@ HasNoRow rows c = (row : ℕ) → ¬ IsRow rows c row
 pub record AreRows (rows : Rows) : Type 0 where
   pub distinct : (c : ConfigParts) (i j : ℕ) → IsRow rows c i → IsRow rows c j → i ≡ j
   pub limit : length rows.configs ≤ rows.limit
+  pub range : rows.limit < 2 ^ 32
 
 abbrev pub IsNext : Rows → ConfigParts → ℕ → Type 0
 IsNext rows c row = HasNoRow rows c × (length rows.configs < rows.limit) × (row ≡ suc (length rows.configs))

@@ -1,6 +1,7 @@
 -- A configuration in twelve words of 64 bits (this project's own): flags, offset, scale and multiplier; the value of a
 -- Timestamp Information TLV; the TLV types; 0; and the HMAC key's block in eight words.
-use Rattle.std.specs.Prelude.{◌≡◌, ℕ, zero, suc, ◌/◌, ◌%◌, ◌^◌, ◌==◌, Bool, if◌then◌else◌, List, [], ◌∷◌, ◌++◌, take, drop, get_or, Option, Some, None}
+use Rattle.std.specs.Prelude.{◌≡◌, ℕ, zero, suc, ◌/◌, ◌%◌, ◌^◌, ◌==◌, Bool, true, false, List, [], ◌∷◌, take, drop, get_or, Option, Some, None}
+use Rattle.std.specs.List.{flat_map}
 use Rattle.std.specs.Int.{w32, w64, from_be_bytes, to_be_bytes}
 use Rattle.refl_types.specs.declared.config.Clock.{Clock}
 use Rattle.refl_types.specs.declared.config.Clock.TheVariants.{Ntp, Ptp}
@@ -8,7 +9,7 @@ use Rattle.refl_types.specs.declared.config.ConfigParts.{ConfigParts}
 use Rattle.refl_types.specs.Spelling.{config_flags, block_octets, FitsConfig}
 
 -- octets in n words of eight
-abbrev pub words_of : ℕ → List ℕ → List ℕ
+unfoldable pub words_of : ℕ → List ℕ → List ℕ
 words_of zero octets = []
 words_of (suc n) octets = from_be_bytes w64 (take 8 octets) ∷ words_of n (drop 8 octets)
 
@@ -27,21 +28,28 @@ AreConfigWords words = (c : ConfigParts) × FitsConfig c × (words ≡ row_words
 -- ---- and back
 
 abbrev pub octets_of : List ℕ → List ℕ
-octets_of [] = []
-octets_of (word ∷ words) = to_be_bytes w64 word ++ octets_of words
+octets_of words = flat_map (to_be_bytes w64) words
+
+abbrev pub clock_of : Bool → Clock
+clock_of true = Ptp
+clock_of false = Ntp
+
+abbrev pub key_of : Bool → List ℕ → Option (List ℕ)
+key_of true block = Some (octets_of block)
+key_of false block = None
 
 -- the parts of the first word, the second, the third and the key's
 abbrev pub config_of : ℕ → ℕ → ℕ → List ℕ → ConfigParts
 config_of head info tlvs block = record {
   stateful = head / 2 ^ 24 % 2 == 1;
-  clock = if head / 2 ^ 25 % 2 == 1 then Ptp else Ntp;
+  clock = clock_of (head / 2 ^ 25 % 2 == 1);
   offset = head / 2 ^ 16 % 2 ^ 8;
   synced = head / 2 ^ 27 % 2 == 1;
   scale = head / 2 ^ 8 % 2 ^ 8;
   multiplier = head % 2 ^ 8;
   info = to_be_bytes w32 info;
   tlvs = tlvs;
-  key = if head / 2 ^ 26 % 2 == 1 then Some (octets_of block) else None;
+  key = key_of (head / 2 ^ 26 % 2 == 1) block;
 }
 
 unfoldable pub config_of_words : List ℕ → ConfigParts

@@ -1,6 +1,6 @@
 //! The book of rows.
 
-ghost use Rattle.std.specs.Prelude.{◌≡◌, ◌+◌, ◌++◌, ◌∷◌, [], length, IfOk};
+ghost use Rattle.std.specs.Prelude.{◌≡◌, ◌+◌, ◌++◌, ◌∷◌, [], length, IfOk, IsTrue, IsFalse};
 ghost use Rattle.config_rows.specs.Rows.{IsSought, IsNext, AreRows};
 
 use refl_types::{Config, Memory};
@@ -16,6 +16,13 @@ pub enum Sought {
     Next(u32),
     /// All rows are used, and none is equal.
     RowsFull,
+}
+
+fn is_same(a: &Config, b: &Config) -> bool
+    ensures same { IsTrue result → a.now ≡ b.now }
+    ensures other { IsFalse result → ¬ (a.now ≡ b.now) }
+{
+    a == b
 }
 
 /// The configurations that have rows. Contracts see it as their list, row 1 first, and how many rows there may be.
@@ -56,7 +63,7 @@ impl RowBook {
         ensures rows { AreRows self.now }
     {
         for i in 0..self.configs.len() {
-            if self.configs[i] == *config {
+            if is_same(&self.configs[i], config) {
                 return Sought::Known(i as u32 + 1);
             }
         }

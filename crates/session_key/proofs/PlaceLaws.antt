@@ -1,8 +1,8 @@
 -- Octets that are hashed one part after the other, and the range of a place.
-use Rattle.std.proofs.Common.{◌≡◌, ℕ, ◌+◌, ◌*◌, ◌%◌, ◌^◌, ◌<◌, List, [], ◌∷◌, ◌++◌, length, take, drop, get_or, refl, sym, ap, ◌∙◌, arith}
+use Rattle.std.proofs.Common.{◌≡◌, ℕ, ◌+◌, ◌<◌, List, [], ◌∷◌, ◌++◌, length, take, get_or, refl, sym, ap, ◌∙◌, arith}
 use Rattle.std.proofs.lemmas.List.{take_more}
 use Rattle.refl_types.specs.declared.types.Endpoint.{Endpoint}
-use Rattle.session_key.specs.Placing.{fnv_step, fnv_from, fnv_1a, place_of}
+use Rattle.session_key.specs.Placing.{fnv_step, fnv_from, place_of}
 
 pub fnv_parts : (hash : ℕ) (a b : List ℕ) → fnv_from hash (a ++ b) ≡ fnv_from (fnv_from hash a) b
 unfolding fnv_from

@@ -1,5 +1,5 @@
 -- Keys in words and back.
-use Rattle.std.proofs.Common.{◌≡◌, ℕ, zero, suc, ◌+◌, ◌*◌, ◌/◌, ◌%◌, ◌^◌, ◌<◌, ◌==◌, Bool, true, false, List, [], ◌∷◌, ◌++◌, length, take, drop, get_or, replicate, refl, sym, ap, subst, ◌∙◌, arith, eq-eqb, ne_eqb, cond, eqb}
+use Rattle.std.proofs.Common.{◌≡◌, ℕ, zero, suc, ◌+◌, ◌*◌, ◌/◌, ◌%◌, ◌^◌, ◌<◌, ◌==◌, Bool, true, false, List, [], ◌∷◌, ◌++◌, length, take, drop, get_or, replicate, refl, sym, ap, subst, ◌∙◌, arith}
 use Rattle.std.specs.Int.{w64, from_be_bytes, to_be_bytes}
 use Rattle.std.proofs.lemmas.List.{take_at, take-take, take-append-drop, length-append, length-take, length-drop, get_or-take}
 use Rattle.std.proofs.lemmas.Nat.{be_bytes_8}
@@ -7,13 +7,12 @@ use Rattle.octet_format.specs.Octets.{IsBytes, IsArray}
 use Rattle.octet_format.proofs.Obeys.{IsBytes-take, IsBytes-drop}
 use Rattle.refl_types.specs.declared.types.Address.{Address}
 use Rattle.refl_types.specs.declared.types.Address.TheVariants.{V4, V6}
-use Rattle.refl_types.specs.declared.types.Endpoint.{Endpoint}
 use Rattle.refl_types.specs.declared.types.Mode.{Mode}
 use Rattle.refl_types.specs.declared.types.Mode.TheVariants.{Plain, Auth, Twamp}
 use Rattle.refl_types.specs.declared.types.Key.{Key}
 use Rattle.refl_types.specs.declared.types.Extra.{Extra}
 use Rattle.refl_types.specs.Spelling.{flag, address_octets, mode_code, FitsAddress, FitsKey, FitsSession}
-use Rattle.session_key.specs.Words.{key_words, AreKeyWords, key_of_words, extra_of_words, key_at, address_of, mode_of, is_v6, ends_word, extra_word}
+use Rattle.session_key.specs.Words.{key_words, AreKeyWords, key_of_words, extra_of_words, address_of, mode_of, is_v6, ends_word}
 
 -- ---- octets of an address
 

@@ -1,8 +1,10 @@
 //! A key and its extra in four words.
 
-ghost use Rattle.std.specs.Prelude.{◌≡◌, ◌<◌};
+ghost use Rattle.std.specs.Prelude.{◌≡◌, ◌<◌, ◌^◌, true};
 ghost use Rattle.session_key.specs.Words.{key_words, AreKeyWords, key_of_words, extra_of_words, address_of, mode_of, ends_word, extra_word};
-ghost use Rattle.refl_types.specs.Spelling.{mode_code};
+ghost use Rattle.octet_format.specs.Octets.{IsArray, IsBytes};
+ghost use Rattle.refl_types.specs.Keys.{is_sound};
+ghost use Rattle.refl_types.specs.Spelling.{mode_code, FitsAddress, FitsKey};
 
 use crate::octets::address_octets;
 use byteorder::{BigEndian, ByteOrder};
@@ -58,10 +60,55 @@ fn extra_word(reflect: u16, symmetrical: bool) -> u64
     (u64::from(reflect) << 1) + u64::from(symmetrical)
 }
 
+// What the types of a key and an extra say of their numbers.
+
+fn octets_fit(octets: &[u8])
+    ensures { IsBytes octets.now }
+{}
+
+fn v4_fits(octets: &[u8; 4])
+    ensures { IsArray 4 octets.now }
+{
+    octets_fit(octets);
+}
+
+fn v6_fits(octets: &[u8; 16])
+    ensures { IsArray 16 octets.now }
+{
+    octets_fit(octets);
+}
+
+fn address_fits(address: &Address)
+    ensures { FitsAddress address.now }
+{
+    match address {
+        Address::V4(octets) => v4_fits(octets),
+        Address::V6(octets) => v6_fits(octets),
+    }
+}
+
+fn number_fits(number: u16)
+    ensures { number < 2 ^ 16 }
+{}
+
+fn key_fits(key: &Key)
+    ensures { FitsKey key.now }
+{
+    number_fits(key.local);
+    number_fits(key.peer.port);
+    number_fits(key.ssid);
+    address_fits(&key.peer.address);
+}
+
 /// The four words of a key and an extra.
 pub fn key_words(key: &Key, extra: &Extra) -> [u64; 4]
-    ensures { result ≡ key_words key.now extra.now }
+    ensures value { result ≡ key_words key.now extra.now }
+    ensures key_fits { FitsKey key.now }
+    ensures extra_fits { extra.now.reflect < 2 ^ 16 }
+    ensures words { is_sound key.now extra.now ≡ true → AreKeyWords result }
 {
+    key_fits(key);
+    number_fits(extra.reflect);
     let (octets, is_v6) = address_octets(&key.peer.address);
     [
         BigEndian::read_u64(&octets),
@@ -76,6 +123,7 @@ pub fn from_key_words(words: &[u64; 4]) -> (Key, Extra)
     requires { AreKeyWords words.now }
     ensures key { result.0 ≡ key_of_words words.now }
     ensures extra { result.1 ≡ extra_of_words words.now }
+    ensures sound { is_sound result.0 result.1 ≡ true }
 {
     let [first, second, ends, agreed] = *words;
     let key = Key {

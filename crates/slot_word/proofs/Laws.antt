@@ -5,6 +5,7 @@ use Rattle.std.proofs.lemmas.Nat.{or_block, xor_block, xor_lt}
 use Rattle.std.proofs.lemmas.Nat.Bits.{and_high_mask}
 use Rattle.slot_word.specs.declared.TheConstants.{ROW_BITS, ROW_LIMIT, GENERATION_LIMIT, DRAW, CLOSED}
 use Rattle.slot_word.specs.Fields.{sequence_in, generation_in, row_in, is_open_word, closed_bit, word_of}
+pub use Rattle.slot_word.specs.Fields.{HasFields, Drawn, Keeps, Exchanged}
 
 -- ---- ranges
 
@@ -25,13 +26,6 @@ row_range n = omega arith
 bit_range : (closed : Bool) → closed_bit closed < 2
 bit_range true = omega arith
 bit_range false = omega arith
-
-pub record HasFields (n s g r : ℕ) (closed : Bool) : Type 0 where
-  pub small : n < 2 ^ 64
-  pub sequence : sequence_in n ≡ s
-  pub generation : generation_in n ≡ g
-  pub row : row_in n ≡ r
-  pub is_open : is_open_word n ≡ not closed
 
 parity : (m : ℕ) (closed : Bool) → (m * 2 + closed_bit closed) % 2 == 0 ≡ not closed
 parity m true = ne_eqb ((m * 2 + 1) % 2) 0 (λ e. omega (arith, e))
@@ -66,13 +60,6 @@ word_back n = word_back_of n (not (n % 2 == 0)) (closed_test (n % 2) (omega arit
 
 -- ---- a draw
 
-pub record Drawn (n m : ℕ) : Type 0 where
-  pub small : m < 2 ^ 64
-  pub sequence : sequence_in m ≡ suc (sequence_in n) % 2 ^ 32
-  pub generation : generation_in m ≡ generation_in n
-  pub row : row_in m ≡ row_in n
-  pub is_open : is_open_word m ≡ is_open_word n
-
 pub drawn : (n : ℕ) → Drawn n ((n + DRAW) % 2 ^ 64)
 unfolding sequence_in generation_in row_in is_open_word
 drawn n =
@@ -86,13 +73,6 @@ drawn n =
     }
 
 -- ---- closing and opening
-
--- all but the closed bit
-pub record Keeps (n m : ℕ) : Type 0 where
-  pub small : n < 2 ^ 64 → m < 2 ^ 64
-  pub sequence : sequence_in m ≡ sequence_in n
-  pub generation : generation_in m ≡ generation_in n
-  pub row : row_in m ≡ row_in n
 
 one_or : (r : ℕ) → r < 2 → bit_or r 1 ≡ 1
 one_or zero h = refl
@@ -141,13 +121,6 @@ unfolding is_open_word
 opening_opens n h = let e = opens_to n h in eq-eqb (bit_and n (2 ^ 64 - 2) % 2) 0 (omega (arith, e))
 
 -- ---- another row
-
-pub record Exchanged (n m new : ℕ) : Type 0 where
-  pub small : n < 2 ^ 64 → m < 2 ^ 64
-  pub sequence : sequence_in m ≡ sequence_in n
-  pub generation : generation_in m ≡ generation_in n
-  pub row : row_in m ≡ new
-  pub is_open : is_open_word m ≡ is_open_word n
 
 xor_back : (a b : ℕ) → bit_xor a (bit_xor a b) ≡ b
 xor_back a b = sym (xor_assoc a a b) ∙ (ap (λ (k : ℕ). bit_xor k b) (xor_self a) ∙ xor_zero_l b)

@@ -5,6 +5,10 @@
 ghost use Rattle.std.specs.Prelude.{◌≡◌, ◌<◌, not};
 ghost use Rattle.slot_word.specs.Fields.{sequence_in, generation_in, row_in, is_open_word, word_of};
 
+mod field_laws;
+
+pub use field_laws::{law_closed, law_draw, law_exchange, law_fields};
+
 /// How many bits of a word the row takes.
 pub const ROW_BITS: u32 = 15;
 
@@ -66,5 +70,25 @@ pub fn unpack(word: u64) -> Fields
         generation: (word / (ROW_LIMIT * 2) % GENERATION_LIMIT) as u32,
         row: (word / 2 % ROW_LIMIT) as u32,
         closed: word % 2 == 1,
+    }
+}
+
+#[cfg(test)]
+mod tests {
+    use super::*;
+
+    #[test]
+    fn a_draw_at_the_last_sequence_number_leaves_the_other_fields(rt: HostRuntime) {
+        let word = 0xFFFF_FFFF_0003_0004;
+        let fields = Fields {
+            sequence: 4294967295,
+            generation: 3,
+            row: 2,
+            closed: false,
+        };
+        assert_eq!(rt; unpack(word), fields);
+        assert_eq!(rt; pack(&fields), word);
+        assert_eq!(rt; word.wrapping_add(DRAW), 0x0000_0000_0003_0004);
+        assert!(rt; unpack(word | CLOSED).closed);
     }
 }

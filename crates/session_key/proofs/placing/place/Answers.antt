@@ -1,4 +1,4 @@
-use Rattle.std.proofs.Common.{◌≡◌, ℕ, List, ◌∷◌, [], ◌++◌, refl, sym, ap, ◌∙◌, append_assoc, ◌%◌}
+use Rattle.std.proofs.Common.{◌≡◌, ◌∷◌, [], ◌++◌, sym, ap, ◌∙◌, append_assoc, ◌%◌}
 use Rattle.std.specs.Int.{w16, to_be_bytes}
 use Rattle.refl_types.specs.Spelling.{family, address_octets}
 use Rattle.session_key.specs.Placing.{place_of, fnv_1a, fnv_from}

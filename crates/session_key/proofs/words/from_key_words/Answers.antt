@@ -1,4 +1,5 @@
-use Rattle.std.proofs.Common.{◌≡◌, ℕ, ◌/◌, ◌%◌, ◌^◌, get_or, refl, arith}
+use Rattle.std.proofs.Common.{◌/◌, ◌%◌, ◌^◌, get_or, refl, ◌∙◌, arith}
+use Rattle.refl_types.specs.Keys.{is_sound}
 use Rattle.session_key.specs.Words.{key_of_words, extra_of_words}
 use Rattle.session_key.proofs.WordLaws.{key_words_fit}
 use Rattle.session_key.proofs.words.from_key_words.Goals as goal
@@ -18,3 +19,8 @@ returns-clause-key c =
 pub returns-clause-extra : goal.returns-clause-extra
 unfolding extra_of_words
 returns-clause-extra c = refl
+
+pub returns-clause-sound : goal.returns-clause-sound
+returns-clause-sound c =
+    let fits = key_words_fit c.args.words.now c.requires in
+    (λ i. is_sound (returns-clause-key c i) (returns-clause-extra c i)) ∙ fits.sound
