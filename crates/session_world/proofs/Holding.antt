@@ -29,7 +29,7 @@ pub record Guard (z : TableSize) (ws : List ℕ) (ds : List Step) (w : ℕ) (xs 
   pub held : (i : ℕ) → holds xs i ≡ true → HeldSlot z ds w xs i
 
 -- the step writes neither the generation nor a key word of slot i
-pub Spares : Step → ℕ → Type 0
+unfoldable pub Spares : Step → ℕ → Type 0
 Spares (WriteKey slot index word) i = i ≢ slot
 Spares (ReserveNew slot row) i = i ≢ slot
 Spares (ReserveUsed slot generation row) i = i ≢ slot

@@ -21,3 +21,4 @@ pub mod Sessions
 pub mod Seatings
 pub mod Schedules
 pub mod Configs
+pub mod RefusedSteps

@@ -3,8 +3,12 @@
 #![tactic(auto)]
 
 mod laws;
+mod refusals;
 mod steps;
 
 pub use laws::{law_draws, law_explained, law_held, law_one_match, law_words};
+pub use refusals::{
+    law_expires_are_exact, law_looks_are_announced, law_no_false_miss, law_only_draws_change, law_reuse,
+};
 pub use session_key::Query;
 pub use steps::{Actor, Part, Step, TableSize};
