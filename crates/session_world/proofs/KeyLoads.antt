@@ -79,7 +79,7 @@ completes s i k n h =
     let b = both (takes_key s i && not (s.number == 0)) (not (has_key_words s)) a.0 in
     record { walking = not_zero s.number (both (takes_key s i) (not (s.number == 0)) b.0).1; before = not_true (has_key_words s) b.1; full = a.1 }
 
-completes_i : (s : LastLook) (i k n : ℕ) → takes_key s i ≡ true → ¬ (s.number ≡ 0) → has_key_words s ≡ false → has_key_words (with_key_word s k n) ≡ true → completes_key s i k n ≡ true
+pub completes_i : (s : LastLook) (i k n : ℕ) → takes_key s i ≡ true → ¬ (s.number ≡ 0) → has_key_words s ≡ false → has_key_words (with_key_word s k n) ≡ true → completes_key s i k n ≡ true
 unfolding completes_key
 completes_i s i k n a b d e = rw (a, ne_eqb s.number 0 b, d, e) refl
 

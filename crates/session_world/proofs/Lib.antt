@@ -22,3 +22,4 @@ pub mod Seatings
 pub mod Schedules
 pub mod Configs
 pub mod RefusedSteps
+pub mod WholeRuns

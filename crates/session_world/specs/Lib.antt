@@ -11,3 +11,4 @@ pub mod Explains
 pub mod Held
 pub mod Loads
 pub mod Refusals
+pub mod WholeRun

@@ -6,7 +6,7 @@ mod laws;
 mod refusals;
 mod steps;
 
-pub use laws::{law_draws, law_explained, law_held, law_one_match, law_words};
+pub use laws::{law_draws, law_explained, law_held, law_one_match, law_whole_run, law_words};
 pub use refusals::{
     law_expires_are_exact, law_looks_are_announced, law_no_false_miss, law_only_draws_change, law_reuse,
 };
