@@ -23,3 +23,4 @@ pub mod Schedules
 pub mod Configs
 pub mod RefusedSteps
 pub mod WholeRuns
+pub mod FirstWords

@@ -1,5 +1,5 @@
 -- What no schedule that runs has, and what no history explains.
-use Rattle.std.proofs.Common.{◌≡◌, ◌≢◌, ◌⊎◌, inl, inr, ⊎_elim, ℕ, zero, suc, ◌+◌, ◌%◌, ◌^◌, ◌<◌, ◌≤◌, ◌==◌, Bool, true, false, if◌then◌else◌, List, [], ◌∷◌, ◌++◌, length, map, take, get_or, get_or-set_other, get_or-set_same, sym, refl, ap, ◌∙◌, subst, arith, eq-eqb, ne_eqb, Option, Some, None}
+use Rattle.std.proofs.Common.{◌≡◌, ◌≢◌, ◌⊎◌, inl, inr, ⊎_elim, ℕ, suc, ◌+◌, ◌%◌, ◌^◌, ◌<◌, ◌≤◌, ◌==◌, Bool, true, false, if◌then◌else◌, List, [], ◌∷◌, ◌++◌, length, map, take, get_or, get_or-set_other, get_or-set_same, sym, refl, ap, ◌∙◌, subst, arith, eq-eqb, ne_eqb, Option, Some, None}
 use Rattle.std.proofs.lemmas.Bool.{eqb-true}
 use lib.Seq.{set-get_or}
 use Rattle.slot_word.specs.declared.TheConstants.{DRAW}
@@ -8,22 +8,19 @@ use Rattle.refl_types.specs.Same.{same_key}
 use Rattle.session_key.specs.Matching.{matches}
 use Rattle.session_world.specs.declared.steps.TableSize.{TableSize}
 use Rattle.session_world.specs.declared.steps.Step.{Step}
-use Rattle.session_world.specs.declared.steps.Step.TheVariants.{WriteRow, WriteKey, ReserveNew, Start, Look, LoadKey, Draw, Split, LoadRow, Reconfigure, Close, Peek, Expire, Join, Announce, Retire, Scan, ReserveUsed}
-use Rattle.session_world.specs.Sizes.{IsWithinLimits}
+use Rattle.session_world.specs.declared.steps.Step.TheVariants.{WriteKey, ReserveNew, Start, Look, LoadKey, Draw, LoadRow, Reconfigure, Close, Peek, Expire, Announce, Retire, ReserveUsed}
 use Rattle.session_world.specs.Keys.{Query, Key, Extra, ConfigParts, has_key}
 use Rattle.session_world.specs.Words.{slot_at, key_at, row_at, announced_at, word_index, word_after, HasRead, words_after}
-use Rattle.session_world.specs.Desk.{is_split, scanned_since, key_of_slot, config_at}
-use Rattle.session_world.specs.Worker.{holds}
-use Rattle.session_world.specs.Answers.{Answer, opened, configured, counted, closed, expired, seen, drew, missed, late, with_configs, expire_gives, desk_gives, desk_answers, answers_at_split, worker_answers}
-use Rattle.session_world.specs.Allowed.{DeskMay, WorkerMay, IsAllowed}
-use Rattle.session_world.specs.Runs.{CoreState, state_after, own_steps, ScheduledStep, run, Runs}
+use Rattle.session_world.specs.Desk.{is_split, key_of_slot, config_at}
+use Rattle.session_world.specs.Answers.{Answer, opened, configured, counted, closed, expired, seen, drew, missed, late, with_configs, expire_gives}
+use Rattle.session_world.specs.Allowed.{WorkerMay, IsAllowed}
+use Rattle.session_world.specs.Runs.{CoreState, state_after, own_steps, run}
 use Rattle.session_world.specs.History.{Session, Event, drawn, entry_after, map_after, IsLegalAt, IsBy, IsLegal}
-use Rattle.session_world.specs.Explains.{Span, living_span, ended_spans, spans_of, answers_of_spans, answers, with_wrapped_counts, answers_in, desk_count, desk_events_before, AllWithin, IsInSpans, Explains}
-use Rattle.session_world.specs.Held.{word_at}
+use Rattle.session_world.specs.Explains.{Span, living_span, ended_spans, spans_of, answers_of_spans, with_wrapped_counts, answers_in, desk_count, desk_events_before, AllWithin, IsInSpans}
 use Rattle.session_world.specs.Refusals.{OnlyDrawsChange, ReuseIsScanned, TakesSlot, HeldIsNotTaken, LooksAreAnnounced, ExpiresAreExact, NoFalseMiss}
-use Rattle.session_world.proofs.Tests.{true_ne_false, bool, number_case, if_yes, if_no}
+use Rattle.session_world.proofs.Tests.{true_ne_false, bool, number_case, if_yes}
 use Rattle.session_world.proofs.KeyFacts.{same_key_refl}
-use Rattle.session_world.proofs.Holding.{Guard, Spares, spares}
+use Rattle.session_world.proofs.Holding.{Spares, spares}
 use Rattle.session_world.proofs.Sound.{IsSound, run_sound}
 
 -- ---- steps of workers
@@ -46,7 +43,7 @@ kept_or_drawn z c w i _ t split may has_read lt = absurd may
 pub only_draws_change : OnlyDrawsChange
 only_draws_change z m ms w i within r by lt = let c : CoreState = run z ms in
     subst (λ (a : ℕ). IsAllowed z a c.desk (own_steps c a) m.step → HasRead m.step (get_or c.words (word_index z a m.step) 0)
-        → (get_or (state_after z c a m.step).words (slot_at i) 0 ≡ get_or c.words (slot_at i) 0) ⊎ ((m.step ≡ Draw i (get_or c.words (slot_at i) 0)) × (get_or (state_after z c a m.step).words (slot_at i) 0 ≡ (get_or c.words (slot_at i) 0 + DRAW) % 2 ^ 64)))
+    → (get_or (state_after z c a m.step).words (slot_at i) 0 ≡ get_or c.words (slot_at i) 0) ⊎ ((m.step ≡ Draw i (get_or c.words (slot_at i) 0)) × (get_or (state_after z c a m.step).words (slot_at i) 0 ≡ (get_or c.words (slot_at i) 0 + DRAW) % 2 ^ 64)))
     (sym by) (λ may has_read. kept_or_drawn z c w i m.step (run_sound z ms within r.0) may.0 may.1 has_read lt) r.1 r.2
 
 pub looks_are_announced : LooksAreAnnounced

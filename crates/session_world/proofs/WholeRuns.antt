@@ -1,28 +1,27 @@
 -- The whole run is one that runs, and its answers are those of a first session.
-use Rattle.std.proofs.Common.{◌≡◌, ◌≢◌, ◌⊎◌, inl, inr, ⊎_elim, ℕ, zero, suc, ◌+◌, ◌-◌, ◌*◌, ◌%◌, ◌^◌, ◌<◌, ◌≤◌, ◌==◌, Bool, true, false, ◌&&◌, ◌||◌, not, if◌then◌else◌, List, [], ◌∷◌, ◌++◌, get_or, get_or-set_other, get_or-set_same, set, sym, refl, ap, ◌∙◌, subst, arith, eq-eqb, ne_eqb, Option, Some, None}
+use Rattle.std.proofs.Common.{◌≡◌, ◌≢◌, inl, ℕ, zero, suc, ◌+◌, ◌-◌, ◌^◌, ◌<◌, ◌≤◌, ◌==◌, Bool, true, false, ◌&&◌, ◌||◌, not, if◌then◌else◌, List, [], ◌∷◌, ◌++◌, get_or, get_or-set_other, get_or-set_same, set, sym, refl, ap, ◌∙◌, subst, arith, eq-eqb, ne_eqb, Option, Some, None}
 use lib.Seq.{set-get_or}
 use Rattle.std.specs.Int.Bits.{bit_and}
 use Rattle.slot_word.specs.Fields.{sequence_in, generation_in, row_in, is_open_word, word_of}
-use Rattle.slot_word.proofs.Laws.{HasFields, word_has, word_back, Keeps, opening_keeps, opening_opens}
+use Rattle.slot_word.proofs.Laws.{HasFields, word_has, word_back, opening_keeps, opening_opens}
 use Rattle.config_rows.specs.Words.{config_of_words, AreConfigWords}
 use Rattle.session_key.specs.Matching.{matches}
 use Rattle.session_world.specs.declared.steps.TableSize.{TableSize}
 use Rattle.session_world.specs.declared.steps.Step.{Step}
-use Rattle.session_world.specs.declared.steps.Step.TheVariants.{WriteRow, WriteKey, ReserveNew, Start, Look, LoadKey, Draw, Split, Announce}
+use Rattle.session_world.specs.declared.steps.Step.TheVariants.{ReserveNew, Start, Split, Announce}
 use Rattle.session_world.specs.Sizes.{IsWithinLimits}
-use Rattle.session_world.specs.Keys.{Query, Key, Extra, put, key_of, extra_of, IsKey, row_list, config_of, IsConfigRow, is_auth, has_key, start_of, distance}
+use Rattle.session_world.specs.Keys.{Query, Key, put, key_of, extra_of, IsKey, row_list, config_of, IsConfigRow, is_auth, has_key, start_of, distance}
 use Rattle.session_world.specs.Words.{slot_at, key_at, announced_at, word_after}
 use Rattle.session_world.specs.Desk.{is_open, generation_of, row_of, key_word_of, key_of_slot, is_reserved, rows_written, row_word_of, config_at, is_split, written_since}
 use Rattle.session_world.specs.Worker.{LastLook, holds, has_key_words, key_matches, first_number, after_look, takes_key, with_key_word, after_key, last_look}
-use Rattle.session_world.specs.Answers.{Answer, opened, seen, drew, missed, late, is_miss, look_gives, words_give, completes_key, key_gives, draw_gives, desk_gives, desk_answers, worker_answers}
+use Rattle.session_world.specs.Answers.{Answer, opened, seen, drew, missed, late, is_miss, words_give, completes_key, key_gives, draw_gives, desk_answers, worker_answers}
 use Rattle.session_world.specs.Allowed.{HasSeen}
 use Rattle.session_world.specs.Runs.{CoreState, ScheduledStep, run, Runs}
 use Rattle.session_world.specs.WholeRun.{by_desk, by_worker, row_steps, key_steps, look_steps, load_steps, whole_run, WholeRun}
-use Rattle.session_world.proofs.Tests.{true_ne_false, or_l, no_and, number_case, if_yes, if_no}
+use Rattle.session_world.proofs.Tests.{true_ne_false, or_l, no_and, number_case, if_yes}
 use Rattle.session_world.proofs.KeyFacts.{key_of_same, extra_of_same, is_key_same, matches_start, start_low}
 use Rattle.session_world.proofs.Walks.{distance_start}
-use Rattle.session_world.proofs.Fits.{SlotFits, WordsFit}
-use Rattle.session_world.proofs.Sound.{IsSound, run_sound}
+use Rattle.session_world.proofs.Sound.{run_sound}
 use Rattle.session_world.proofs.KeyLoads.{completes_i}
 
 row_list_in : (f g : ℕ → ℕ) → ((k : ℕ) → 0 < k → k < 13 → f k ≡ g k) → row_list f ≡ row_list g

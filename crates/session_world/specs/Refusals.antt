@@ -1,5 +1,5 @@
 -- What no schedule that runs has, and what no history explains.
-use Rattle.std.specs.Prelude.{◌≡◌, ◌⊎◌, ℕ, zero, suc, ◌+◌, ◌%◌, ◌^◌, ◌<◌, ◌≤◌, Bool, true, List, [], ◌∷◌, Some}
+use Rattle.std.specs.Prelude.{◌≡◌, ◌⊎◌, ℕ, suc, ◌+◌, ◌%◌, ◌^◌, ◌<◌, ◌≤◌, true, List, [], ◌∷◌}
 use Rattle.slot_word.specs.declared.TheConstants.{DRAW}
 use Rattle.session_key.specs.Matching.{matches}
 use Rattle.session_world.specs.declared.steps.TableSize.{TableSize}
@@ -10,7 +10,7 @@ use Rattle.session_world.specs.Keys.{Query, Key, Extra, ConfigParts}
 use Rattle.session_world.specs.Words.{slot_at, announced_at}
 use Rattle.session_world.specs.Desk.{is_split, scanned_since}
 use Rattle.session_world.specs.Worker.{holds}
-use Rattle.session_world.specs.Answers.{Answer, opened, expired, missed, desk_gives, desk_answers, answers_at_split, worker_answers}
+use Rattle.session_world.specs.Answers.{opened, expired, missed, desk_gives, desk_answers, answers_at_split, worker_answers}
 use Rattle.session_world.specs.Runs.{ScheduledStep, run, Runs}
 use Rattle.session_world.specs.History.{Event}
 use Rattle.session_world.specs.Explains.{Explains}

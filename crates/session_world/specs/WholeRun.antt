@@ -1,12 +1,12 @@
 -- A run from the first row word to the first draw: that the definitions allow what they are for.
-use Rattle.std.specs.Prelude.{◌≡◌, ℕ, zero, suc, ◌+◌, Bool, true, false, List, [], ◌∷◌}
+use Rattle.std.specs.Prelude.{◌≡◌, ℕ, zero, suc, true, false, List, [], ◌∷◌}
 use Rattle.slot_word.specs.Fields.{word_of}
 use Rattle.session_key.specs.Matching.{matches}
 use Rattle.session_world.specs.declared.steps.TableSize.{TableSize}
 use Rattle.session_world.specs.declared.steps.Step.{Step}
 use Rattle.session_world.specs.declared.steps.Step.TheVariants.{WriteRow, WriteKey, ReserveNew, Start, Look, LoadKey, Draw, Split, Announce}
 use Rattle.session_world.specs.Sizes.{IsWithinLimits}
-use Rattle.session_world.specs.Keys.{Query, Key, IsKey, IsConfigRow, key_of, extra_of, config_of, is_auth, has_key, start_of}
+use Rattle.session_world.specs.Keys.{Query, IsKey, IsConfigRow, key_of, extra_of, config_of, is_auth, has_key, start_of}
 use Rattle.session_world.specs.Desk.{config_at}
 use Rattle.session_world.specs.Answers.{opened, seen, drew, desk_answers, worker_answers}
 use Rattle.session_world.specs.Runs.{ScheduledStep, run, Runs}
