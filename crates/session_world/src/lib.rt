@@ -3,8 +3,12 @@
 #![tactic(auto)]
 
 mod laws;
+#[cfg(test)]
+mod plain;
 mod refusals;
 mod steps;
+#[cfg(test)]
+mod tests;
 mod world;
 
 pub use laws::{law_draws, law_explained, law_held, law_one_match, law_whole_run, law_words};
