@@ -1,0 +1,8 @@
+//! The unauthenticated base packets of STAMP, and their fields.
+#![tactic(auto)]
+
+mod fields;
+mod plain;
+
+pub use fields::{ReplyBase, SenderBase, Short};
+pub use plain::{read_plain, write_plain};

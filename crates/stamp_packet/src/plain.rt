@@ -1,0 +1,89 @@
+//! The unauthenticated base packets, 44 octets (RFC 8762, sections 4.2.1 and 4.3.1; RFC 8972, section 3).
+
+ghost use Rattle.std.specs.Prelude.{◌≡◌, ◌≤◌, ◌++◌, length, drop, IfOk};
+ghost use Rattle.stamp_packet.specs.Plain.{read_of, plain_request, plain_reply};
+
+use crate::fields::{ReplyBase, SenderBase, Short};
+use octet_format::{field2, field4, field8, put};
+
+/// Octets of a base packet.
+const PLAIN_LEN: usize = 44;
+
+/// Reads a request. The octets that must be zero are ignored.
+#[inline]
+#[tactic(auto, unfolding(crate::specs::Plain::sender_of))]
+pub fn read_plain(octets: &[u8]) -> Result<SenderBase, Short>
+    ensures { result ≡ read_of octets.now }
+{
+    if octets.len() < PLAIN_LEN {
+        return Err(Short);
+    }
+    Ok(SenderBase {
+        sequence: u32::from_be_bytes(field4(octets, 0)),
+        timestamp: field8(octets, 4),
+        error: field2(octets, 12),
+        ssid: u16::from_be_bytes(field2(octets, 14)),
+    })
+}
+
+/// Writes a reply into the first 44 octets. All other octets stay.
+#[inline]
+pub fn write_plain(reply: &ReplyBase, out: &mut [u8])
+    requires { 44 ≤ length out.old }
+    ensures { out.new ≡ plain_reply reply.now ++ drop 44 out.old }
+{
+    put(out, 0, &reply.sequence.to_be_bytes());
+    put(out, 4, &reply.timestamp);
+    put(out, 12, &reply.error);
+    put(out, 14, &reply.ssid.to_be_bytes());
+    put(out, 16, &reply.received);
+    put(out, 24, &reply.sender.sequence.to_be_bytes());
+    put(out, 28, &reply.sender.timestamp);
+    put(out, 36, &reply.sender.error);
+    put(out, 38, &[0, 0, reply.ttl, 0, 0, 0]);
+}
+
+#[cfg(test)]
+mod tests {
+    use super::*;
+
+    /// A request with sequence number 5 and SSID 7.
+    const REQUEST: [u8; 44] = [
+        0, 0, 0, 5, 0x11, 0x22, 0x33, 0x44, 0x55, 0x66, 0x77, 0x88, 0, 1, 0, 7, 0, 0, 0, 0, 0, 0,
+        0, 0, 0, 0, 0, 0, 0, 0, 0, 0, 0, 0, 0, 0, 0, 0, 0, 0, 0, 0, 0, 0,
+    ];
+
+    const SENDER: SenderBase = SenderBase {
+        sequence: 5,
+        timestamp: [0x11, 0x22, 0x33, 0x44, 0x55, 0x66, 0x77, 0x88],
+        error: [0, 1],
+        ssid: 7,
+    };
+
+    #[test]
+    fn a_request_is_read_from_44_octets_on(rt: HostRuntime) {
+        assert_eq!(rt; read_plain(&REQUEST), Ok(SENDER));
+        assert_eq!(rt; read_plain(&[0; 43]), Err(Short));
+    }
+
+    #[test]
+    fn a_reply_is_written_and_what_follows_it_stays(rt: HostRuntime) {
+        let reply = ReplyBase {
+            sequence: 0,
+            timestamp: [0x83, 0xAA, 0x7E, 0x80, 0xFF, 0xFF, 0xFF, 0xFB],
+            error: [0, 1],
+            ssid: 7,
+            received: [0x83, 0xAA, 0x7E, 0x80, 0, 0, 0, 0],
+            sender: SENDER,
+            ttl: 255,
+        };
+        let mut out = [0xEE; 46];
+        write_plain(&reply, &mut out);
+        let want = [
+            0, 0, 0, 0, 0x83, 0xAA, 0x7E, 0x80, 0xFF, 0xFF, 0xFF, 0xFB, 0, 1, 0, 7, 0x83, 0xAA,
+            0x7E, 0x80, 0, 0, 0, 0, 0, 0, 0, 5, 0x11, 0x22, 0x33, 0x44, 0x55, 0x66, 0x77, 0x88, 0,
+            1, 0, 0, 0xFF, 0, 0, 0, 0xEE, 0xEE,
+        ];
+        assert_eq!(rt; out, want);
+    }
+}
