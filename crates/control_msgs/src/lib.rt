@@ -13,3 +13,6 @@ pub use modes::{is_open_mode, is_symmetrical, reflects_octets};
 pub use request::{octets_to_reflect, read_request};
 pub use server::{write_accept, write_greeting, write_server_start, write_start_ack};
 pub use types::{Field, MsgFault, Request};
+
+#[cfg(test)]
+mod tests;
