@@ -13,3 +13,6 @@ pub use control_msgs::{Field, MsgFault, Request};
 pub use laws::{client_messages, every_cut, whole_messages};
 pub use machine::Machine;
 pub use types::{Ask, DeskAnswer, Message, Stage, Stepped};
+
+#[cfg(test)]
+mod tests;
