@@ -18,7 +18,7 @@ over SettingUp x y e = absurd cc
 over Idle x y e = absurd cc
 over Started x y e = absurd cc
 
-going : {A : Type 0} (s : Stage) (x y : A) → is_hung_up s ≡ false → unless_hung_up s x y ≡ y
+pub going : {A : Type 0} (s : Stage) (x y : A) → is_hung_up s ≡ false → unless_hung_up s x y ≡ y
 going HungUp x y e = absurd cc
 going SettingUp x y e = refl
 going Idle x y e = refl

@@ -3,3 +3,4 @@ pub mod Feeding
 pub mod Cuts
 pub mod Client
 pub mod Rows
+pub mod Talks

@@ -1,18 +1,22 @@
 //! Laws of the stream, as functions that do nothing.
 
-ghost use Rattle.std.specs.Prelude.{◌≡◌, ℕ, ◌<◌, ◌^◌, Bool, true, false, List, [], ◌∷◌, ◌++◌, length};
+ghost use Rattle.std.specs.Prelude.{◌≡◌, ℕ, ◌<◌, ◌^◌, Bool, true, false, List, [], ◌∷◌, ◌++◌, length, drop};
+ghost use Rattle.std.specs.Prelude.{Some, None};
 ghost use Rattle.std.specs.List.{concat};
 ghost use Rattle.control_msgs.specs.declared.types.Request.{Request as SessionRequest};
 ghost use Rattle.control_msgs.specs.Layout.{request_message, set_up, start_sessions, stop_sessions};
+ghost use Rattle.twamp_control.specs.declared.types.Message.{Message};
 ghost use Rattle.twamp_control.specs.declared.types.Message.TheVariants.{SetUp, Request, Start, Stop};
 ghost use Rattle.twamp_control.specs.Stream.{IsWhole, Reading, message_length, message_of, messages_from};
 ghost use Rattle.twamp_control.specs.Connection.{
   Connection,
+  Feeds,
   connection_after,
   connection_after_pieces,
   messages_in,
   messages_in_pieces,
 };
+ghost use Rattle.twamp_control.specs.Talk.{Talk, at_connection, said, talk, talk_in_pieces};
 
 /// Every cut of a stream into pieces gives the same messages, and leaves the same connection.
 pub fn every_cut()
@@ -41,4 +45,16 @@ pub fn client_messages()
     ensures start { message_of false start_sessions ≡ Start }
     ensures stop_whole { (number : ℕ) → IsWhole false (stop_sessions number) }
     ensures stop { (number : ℕ) → number < 2 ^ 32 → message_of false (stop_sessions number) ≡ Stop number }
+{}
+
+/// Whoever feeds a connection until no message comes, and steps on each message, holds one talk: its replies and the
+/// connection afterwards are the same for every cut of its octets into pieces.
+pub fn one_talk()
+    ensures message { (t : Talk) (new : Connection) (piece : List ℕ) (n : ℕ) (m : Message) →
+        Feeds t.connection new piece n (Some m) →
+        talk t piece ≡ talk (said (at_connection t new) m) (drop n piece) }
+    ensures end { (t : Talk) (new : Connection) (piece : List ℕ) (n : ℕ) →
+        Feeds t.connection new piece n None →
+        talk t piece ≡ at_connection t new }
+    ensures pieces { (t : Talk) (pieces : List (List ℕ)) → talk_in_pieces t pieces ≡ talk t (concat pieces) }
 {}

@@ -10,7 +10,7 @@ mod stream;
 mod types;
 
 pub use control_msgs::{Field, MsgFault, Request};
-pub use laws::{client_messages, every_cut, whole_messages};
+pub use laws::{client_messages, every_cut, one_talk, whole_messages};
 pub use machine::Machine;
 pub use types::{Ask, DeskAnswer, Message, Stage, Stepped};
 
