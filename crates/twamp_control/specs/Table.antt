@@ -2,7 +2,7 @@
 -- connection goes on (RFC 5357, sections 3.1, 3.5, 3.7 and 3.8; RFC 4656, sections 3.1 and 3.3). What a Start-Sessions
 -- does without a session, what a Stop-Sessions does in stage Idle, and that a message out of turn is answered by a
 -- hang-up alone, is this project's own.
-use Rattle.std.specs.Prelude.{◌≡◌, ℕ, ◌+◌, ◌-◌, ◌^◌, min, Bool, true, false, ◌==◌, ◌||◌, List, [], ◌++◌, length, drop, replicate, Result, Ok, Err, if◌then◌else◌}
+use Rattle.std.specs.Prelude.{◌≡◌, ℕ, ◌+◌, ◌-◌, ◌^◌, ◌≤◌, min, Bool, true, false, ◌==◌, ◌||◌, List, [], ◌++◌, length, drop, replicate, Result, Ok, Err, if◌then◌else◌}
 use Rattle.std.specs.Int.{w32, w64, to_be_bytes}
 use Rattle.octet_format.specs.Octets.{field}
 use Rattle.refl_types.specs.declared.outcome.Place.{Place}
@@ -126,5 +126,6 @@ written_over old reply = reply ++ drop (length reply) old
 -- a row is carried out
 pub record Steps (row : Row) (old new : List ℕ) (next : Connection) (result : Stepped) : Type 0 where
   pub reply : new ≡ written_over old row.reply
+  pub within : result.len ≤ length new
   pub stepped : result ≡ stepped_of row
   pub goes_on : next ≡ row.next

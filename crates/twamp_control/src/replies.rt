@@ -1,6 +1,6 @@
 //! Replies at the front of a buffer, and their parts.
 
-ghost use Rattle.std.specs.Prelude.{◌≡◌, ◌++◌, length, replicate};
+ghost use Rattle.std.specs.Prelude.{◌≡◌, ◌≤◌, length, replicate};
 ghost use Rattle.control_msgs.specs.Layout.{accept_session, server_start, start_ack};
 ghost use Rattle.twamp_control.specs.Table.{reflected, session_id, written_over};
 
@@ -14,6 +14,7 @@ use refl_types::Place;
 pub(crate) fn put_server_start(accept: u8, start: u64, out: &mut [u8; 64]) -> usize
     ensures reply { out.new ≡ written_over out.old (server_start accept start) }
     ensures len { result ≡ length (server_start accept start) }
+    ensures short { result ≤ 48 }
 {
     let mut reply = [0; 48];
     write_server_start(accept, start, &mut reply);
@@ -31,6 +32,7 @@ fn put_session(
 ) -> usize
     ensures reply { out.new ≡ written_over out.old (accept_session accept port sid.now reflected.now) }
     ensures len { result ≡ length (accept_session accept port sid.now reflected.now) }
+    ensures short { result ≤ 48 }
 {
     let mut reply = [0; 48];
     write_accept(accept, port, sid, reflected, &mut reply);
@@ -47,6 +49,7 @@ pub(crate) fn put_accept(
 ) -> usize
     ensures reply { out.new ≡ written_over out.old (accept_session 0 port sid.now reflected.now) }
     ensures len { result ≡ length (accept_session 0 port sid.now reflected.now) }
+    ensures short { result ≤ 48 }
 {
     put_session(0, port, sid, reflected, out)
 }
@@ -55,6 +58,7 @@ pub(crate) fn put_accept(
 pub(crate) fn put_refusal(accept: u8, reflected: &[u8; 2], out: &mut [u8; 64]) -> usize
     ensures reply { out.new ≡ written_over out.old (accept_session accept 0 (replicate 16 0) reflected.now) }
     ensures len { result ≡ length (accept_session accept 0 (replicate 16 0) reflected.now) }
+    ensures short { result ≤ 48 }
 {
     put_session(accept, 0, &[0; 16], reflected, out)
 }
@@ -63,6 +67,7 @@ pub(crate) fn put_refusal(accept: u8, reflected: &[u8; 2], out: &mut [u8; 64]) -
 pub(crate) fn put_start_ack(accept: u8, out: &mut [u8; 64]) -> usize
     ensures reply { out.new ≡ written_over out.old (start_ack accept) }
     ensures len { result ≡ length (start_ack accept) }
+    ensures short { result ≤ 48 }
 {
     let mut reply = [0; 32];
     write_start_ack(accept, &mut reply);

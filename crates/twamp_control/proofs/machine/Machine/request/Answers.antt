@@ -1,4 +1,4 @@
-use Rattle.std.proofs.Common.{false, take, sym, ap, subst, ◌∙◌}
+use Rattle.std.proofs.Common.{false, take, sym, ap, subst, ◌∙◌, arith}
 use Rattle.twamp_control.specs.declared.types.DeskAnswer.{DeskAnswer}
 use Rattle.twamp_control.specs.declared.types.DeskAnswer.TheVariants.{Reserved}
 use Rattle.twamp_control.specs.declared.types.Stepped.{Stepped}
@@ -18,4 +18,4 @@ returns-in-Reserved c =
     subst (λ (a : DeskAnswer). Steps (request_row c.args.self.now c.args.octets.now a c.args.now) c.args.out.now c.put_accept-len.new.out after result) (sym c.in-Reserved.is)
     (subst (λ (s : Connection). Steps (request_row s c.args.octets.now (Reserved c.in-Reserved.place c.in-Reserved.port) c.args.now) c.args.out.now c.put_accept-len.new.out after result) c.self.view_is
     (accepted before c.args.octets.now c.args.out.now c.put_accept-len.new.out c.session_id.result c.reflected-reflected.result c.in-Reserved.place c.in-Reserved.port c.args.now c.saturating_add-self-inside.result c.put_accept-len.result
-    (ap (λ (s : Connection). s.stage) c.self.view_is ∙ c.requires) c.session_id.ensures c.reflected-reflected.ensures c.saturating_add-self-inside.ensures c.put_accept-len.ensures.reply c.put_accept-len.ensures.len))
+    (ap (λ (s : Connection). s.stage) c.self.view_is ∙ c.requires) c.session_id.ensures c.reflected-reflected.ensures c.saturating_add-self-inside.ensures c.put_accept-len.ensures.reply c.put_accept-len.ensures.len (omega arith)))
