@@ -1,6 +1,8 @@
-//! Moments in the formats of timestamps.
+//! Moments and spans of time in the formats of timestamps.
 #![tactic(auto)]
 
+mod timeout;
 mod timestamp;
 
+pub use timeout::timeout_nanos;
 pub use timestamp::stamp;

@@ -1,0 +1,4 @@
+pub mod Stream
+pub mod Connection
+pub mod Table
+pub mod Talk

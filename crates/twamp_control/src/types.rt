@@ -1,0 +1,94 @@
+//! What passes between a connection and whoever keeps the sessions.
+
+ghost use Rattle.std.specs.Prelude.{◌≡◌};
+ghost use Rattle.twamp_control.specs.Connection.{is_hung_up};
+ghost use Rattle.twamp_control.specs.Table.{fits};
+
+use control_msgs::Request;
+use refl_types::Place;
+
+/// A message of a client (RFC 5357, section 3).
+#[derive(Clone, Copy, Debug, PartialEq, Eq)]
+pub enum Message {
+    /// The Set-Up-Response, with the mode that the client has chosen. It is the first message.
+    SetUp { mode: u32 },
+    /// A Request-TW-Session, not read yet.
+    Request([u8; 112]),
+    /// A Start-Sessions.
+    Start,
+    /// A Stop-Sessions, with its Number of Sessions.
+    Stop { number: u32 },
+    /// An octet that is no command number of the open mode.
+    Unknown(u8),
+}
+
+/// What is to be done with the connection's sessions before the reply is written.
+#[derive(Clone, Copy, Debug, PartialEq, Eq)]
+pub enum Ask {
+    /// A session is to be reserved.
+    Reserve(Request),
+    /// All reserved sessions are to be started, in the order in which they were reserved.
+    StartAll,
+    /// Reserved sessions are to be abandoned, and started ones end after their timeout.
+    StopAll { number: u32 },
+    /// Nothing.
+    Nothing,
+    /// The connection is hung up, and nothing is sent before.
+    HangUp,
+}
+
+/// What was done.
+#[derive(Clone, Copy, Debug, PartialEq, Eq)]
+pub enum DeskAnswer {
+    /// A session was reserved at this place, for packets to this port.
+    Reserved { place: Place, port: u16 },
+    /// No session was reserved, for a reason of RFC 4656, section 3.3: 3, 4 or 5.
+    Refused(u8),
+    /// What was asked was done, and wasn't a reservation.
+    Done,
+}
+
+/// What a step of the connection leaves to be done.
+#[derive(Clone, Copy, Debug, PartialEq, Eq)]
+pub struct Stepped {
+    /// How many octets of reply were written. With none, nothing is sent.
+    pub len: usize,
+    /// The connection is hung up, after the reply was sent.
+    pub hang_up: bool,
+}
+
+/// How far a connection has come.
+#[derive(Clone, Copy, Debug, PartialEq, Eq)]
+pub enum Stage {
+    /// The server has sent its greeting.
+    SettingUp,
+    /// Sessions may be asked for.
+    Idle,
+    /// The sessions run.
+    Started,
+    /// The connection is over, and nothing more of it is read.
+    HungUp,
+}
+
+impl Stage {
+    /// Whether the connection is over.
+    pub fn is_hung_up(self) -> bool
+        ensures { result ≡ is_hung_up self }
+    {
+        matches!(self, Stage::HungUp)
+    }
+}
+
+impl DeskAnswer {
+    /// Whether this answers what was asked: a reservation is made, or refused with 3, 4 or 5; all else is done.
+    pub fn fits(&self, ask: &Ask) -> bool
+        ensures { result ≡ fits ask.now self.now }
+    {
+        match (ask, self) {
+            (Ask::Reserve(_), DeskAnswer::Reserved { .. }) => true,
+            (Ask::Reserve(_), DeskAnswer::Refused(accept)) => matches!(*accept, 3 | 4 | 5),
+            (Ask::Reserve(_), DeskAnswer::Done) => false,
+            (_, answer) => matches!(answer, DeskAnswer::Done),
+        }
+    }
+}
