@@ -72,5 +72,6 @@ framed_behind s n old given new sized fits wrote framed = subst P sized whole fi
     P m = 31 + m ≤ length old → given ≡ s.octets ++ drop m (take (length old - 31) (drop 31 old))
         → new ≡ sent_octets (record s { octets = take m (drop 31 (put_mid 31 (length old - 31) old given)) }) ++ drop (31 + m) (put_mid 31 (length old - 31) old given)
         → new ≡ sent_octets s ++ drop (31 + m) old
+
     whole : P (length s.octets)
     whole f w r = wrapped s old (put_mid 31 (length old - 31) old given) new f (written_from 31 old given s.octets f w) r

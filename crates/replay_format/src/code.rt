@@ -17,6 +17,3 @@ pub const NO_SESSION: u8 = 1;
 pub const SHORT: u8 = 2;
 /// The HMAC of the base packet is another.
 pub const BAD_HMAC: u8 = 3;
-
-/// The program doesn't serve this yet.
-pub const NOT_SERVED: u8 = 0xF0;

@@ -1,2 +1,3 @@
 pub mod TableFacts
 pub mod AnswerFacts
+pub mod ReplyFacts

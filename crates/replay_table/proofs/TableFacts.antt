@@ -8,14 +8,16 @@ use Rattle.std.proofs.lemmas.List.Sums.{prefix_len_passes}
 use Rattle.refl_types.specs.declared.types.Address.TheVariants.{V4}
 use Rattle.refl_types.specs.declared.types.Mode.TheVariants.{Plain}
 use Rattle.refl_types.specs.declared.config.Clock.TheVariants.{Ntp}
+use Rattle.refl_types.specs.declared.config.ConfigParts.{ConfigParts}
 use Rattle.refl_types.specs.declared.types.Key.{Key}
 use Rattle.refl_types.specs.Same.{same_endpoint, same_mode, same_key}
 use Rattle.refl_types.proofs.SameFacts.{key_same, same_key-refl}
 use Rattle.session_key.specs.declared.matching.Query.{Query}
 use Rattle.session_key.specs.Matching.{matches}
+use Rattle.reflect_core.specs.Judgement.{HasKey, judgement}
 use Rattle.replay_table.specs.declared.session.Session.{Session}
 use Rattle.replay_table.specs.Table.{Entry, Table, is_bound, has_clash, session_for, with_entry, update, raised}
-use Rattle.replay_table.specs.Stands.{StandsFor, Stands}
+use Rattle.replay_table.specs.Stands.{StandsFor, Stands, AreKeyed}
 
 -- a test of the key alone
 same_any : (p : Key → Bool) (ss : List Session) (t : Table) → Stands ss t → list_any (λ s. p s.key) ss ≡ list_any (λ e. p e.key) t
@@ -106,3 +108,29 @@ stands-at q (s ∷ ss) (e ∷ t) (suc i) d st below hit_here earlier =
 
 pub raised-count : (s : Session) (e : Entry) (n : ℕ) → StandsFor s e → n ≡ (s.count + 1) % 2 ^ 32 → StandsFor (record s { count = n }) (raised e)
 raised-count s e n st is = record { key = st.key; extra = st.extra; config = st.config; count = is ∙ omega (arith, st.count) }
+
+-- ---- sessions of mode Auth have a key
+
+pub keyed-at : (ss : List Session) (i : ℕ) (d : Session) → AreKeyed ss → i < length ss → HasKey (get_or ss i d).key.mode (get_or ss i d).config
+keyed-at [] i d all below = absurd (omega arith)
+keyed-at (s ∷ ss) zero d all below = all.0
+keyed-at (s ∷ ss) (suc i) d all below = keyed-at ss i d all.1 (omega arith)
+
+pub keyed-set : (ss : List Session) (i : ℕ) (r : Session) → AreKeyed ss → HasKey r.key.mode r.config → AreKeyed (set ss i r)
+keyed-set [] i r all one = tt
+keyed-set (s ∷ ss) zero r all one = (one, all.1)
+keyed-set (s ∷ ss) (suc i) r all one = (all.0, keyed-set ss i r all.1 one)
+
+pub keyed-push : (ss : List Session) (r : Session) → AreKeyed ss → HasKey r.key.mode r.config → AreKeyed (ss ++ r ∷ [])
+keyed-push [] r all one = (one, tt)
+keyed-push (s ∷ ss) r all one = (all.0, keyed-push ss r all.1 one)
+
+pub judged-same : (s : Session) (e : Entry) (octets : List ℕ) → StandsFor s e → judgement e.key.mode e.config octets ≡ judgement s.key.mode s.config octets
+judged-same s e octets st =
+    ap (λ (k : Key). judgement k.mode e.config octets) (sym st.key) ∙ ap (λ (c : ConfigParts). judgement s.key.mode c octets) (sym st.config)
+
+-- what stands at a place within a list is named by any default
+pub same-at : (ss : List Session) (i : ℕ) (c d : Session) → i < length ss → get_or ss i c ≡ get_or ss i d
+same-at [] i c d below = absurd (omega arith)
+same-at (s ∷ ss) zero c d below = refl
+same-at (s ∷ ss) (suc i) c d below = same-at ss i c d (omega arith)

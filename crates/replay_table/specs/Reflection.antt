@@ -1,30 +1,19 @@
--- The reply to an unauthenticated STAMP request without TLVs (RFC 8762, section 4.3.1).
-use Rattle.std.specs.Prelude.{ℕ, ◌+◌, ◌*◌, ◌%◌, ◌^◌, List, [], ◌∷◌, unwrap_or}
-use Rattle.refl_types.specs.declared.config.ConfigParts.{ConfigParts}
-use Rattle.refl_types.specs.Spelling.{flag, is_ptp}
-use Rattle.ntp_time.specs.Timestamp.{timestamp}
-use Rattle.stamp_packet.specs.declared.fields.ReplyBase.{ReplyBase}
-use Rattle.stamp_packet.specs.Plain.{sender_of, plain_reply}
+-- The reply to a datagram of a session, under the count of the session.
+use Rattle.std.specs.Prelude.{ℕ, ◌%◌, ◌^◌, length}
+use Rattle.refl_types.specs.declared.types.Meta.{Meta}
+use Rattle.reflect_core.specs.Reflection.{Reflected, reflection}
 use Rattle.replay_format.specs.Records.{Datagram}
 use Rattle.replay_format.specs.Answers.{Sending}
 use Rattle.replay_table.specs.Table.{Entry}
 
--- the Error Estimate: S, Z, Scale and Multiplier (RFC 4656, section 4.1.2; RFC 8762, section 4.2.1)
-unfoldable pub error_estimate : ConfigParts → List ℕ
-error_estimate c = (flag c.synced * 128 + flag (is_ptp c.clock) * 64 + c.scale) ∷ c.multiplier ∷ []
+-- what is told of a datagram besides its octets
+abbrev pub meta_of : Datagram → Meta
+meta_of d = record { local = d.local; peer = d.peer; len = length d.octets; ttl = d.ttl; arrival = d.arrival }
 
--- the fields of the reply, under the count of the session
-unfoldable pub reply_of : Entry → Datagram → ReplyBase
-reply_of e d = record {
-  sequence = e.count % 2 ^ 32;
-  timestamp = timestamp e.config.clock e.config.offset d.t3;
-  error = error_estimate e.config;
-  ssid = (sender_of d.octets).ssid;
-  received = timestamp e.config.clock e.config.offset d.arrival;
-  sender = sender_of d.octets;
-  ttl = unwrap_or d.ttl 255;
-}
+-- a reply that is sent under a number
+abbrev pub sent_under : ℕ → Reflected → Sending
+sent_under n r = record { from = r.from; to = r.to; number = n; octets = r.octets }
 
--- it goes from where the request arrived to where it came from
-unfoldable pub reflection : Entry → Datagram → Sending
-reflection e d = record { from = d.local; to = d.peer; number = e.count % 2 ^ 32; octets = plain_reply (reply_of e d) }
+-- the number is the count modulo 2^32
+unfoldable pub sending : Entry → Datagram → Sending
+sending e d = sent_under (e.count % 2 ^ 32) (reflection e.key e.extra e.config (e.count % 2 ^ 32) (meta_of d) d.t3 d.octets)

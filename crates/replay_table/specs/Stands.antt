@@ -1,5 +1,6 @@
 -- What the code keeps of a table stands for the table: its counts are those of the table modulo 2^32.
 use Rattle.std.specs.Prelude.{ℕ, ◌≡◌, ◌%◌, ◌^◌, List, [], ◌∷◌, ◌++◌, length, drop}
+use Rattle.reflect_core.specs.Judgement.{HasKey}
 use Rattle.replay_format.specs.Records.{Item}
 use Rattle.replay_format.specs.Answers.{answer_octets}
 use Rattle.replay_table.specs.declared.session.Session.{Session}
@@ -17,6 +18,11 @@ Stands [] [] = Unit {0}
 Stands [] (e ∷ t) = ⊥
 Stands (s ∷ ss) [] = ⊥
 Stands (s ∷ ss) (e ∷ t) = StandsFor s e × Stands ss t
+
+-- each session of mode Auth has an HMAC key
+abbrev pub AreKeyed : List Session → Type 0
+AreKeyed [] = Unit {0}
+AreKeyed (s ∷ ss) = HasKey s.key.mode s.config × AreKeyed ss
 
 -- the answer to a record was written at the front, n octets, and the table after it is kept
 pub record IsAnswered (t : Table) (new : List Session) (item : Item) (before written : List ℕ) (n : ℕ) : Type 0 where

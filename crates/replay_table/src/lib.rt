@@ -6,4 +6,4 @@ mod session;
 mod sessions;
 
 pub use session::Session;
-pub use sessions::{LONGEST_ANSWER, SESSIONS, Sessions};
+pub use sessions::{ANSWER_ROOM, SESSIONS, Sessions};

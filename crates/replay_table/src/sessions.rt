@@ -5,28 +5,29 @@ ghost use Rattle.std.specs.List.{list_any};
 ghost use Rattle.refl_types.specs.Same.{same_endpoint, same_mode, same_key};
 ghost use Rattle.session_key.specs.Matching.{query_of, matches};
 ghost use Rattle.refl_types.specs.declared.types.Extra.{Extra};
-ghost use Rattle.replay_table.specs.Outcomes.{is_served, code_of, opening_code};
+ghost use Rattle.replay_table.specs.Outcomes.{code_of, opening_code};
 ghost use Rattle.replay_format.specs.Records.{Opens, Arrives, datagram_of};
+ghost use Rattle.reflect_core.specs.Judgement.{HasKey};
 ghost use Rattle.replay_table.specs.Table.{Table};
-ghost use Rattle.replay_table.specs.Stands.{Stands, IsAnswered};
+ghost use Rattle.replay_table.specs.Stands.{Stands, IsAnswered, AreKeyed};
 
-use crate::reply::{PLAIN_LEN, write_reflection};
+use crate::reply::write_reflection;
 use crate::session::Session;
-use refl_types::{Clock, Config, Extra, Key, Memory, Meta, Mode};
+use refl_types::{Config, Extra, Key, Memory, Meta, Mode, Silent};
+use reflect_core::{Judged, judge};
 use replay_format::{
-    DUPLICATE, FULL, MODE_CLASH, NO_KEY, NO_SESSION, NOT_SERVED, OPENED, Outcome, Record, SHORT,
+    BAD_HMAC, DUPLICATE, FULL, MODE_CLASH, NO_KEY, NO_SESSION, OPENED, Outcome, Record, SHORT,
     write_outcome,
 };
 use session_key::matches;
-use stamp_packet::read_plain;
 use std::alloc::Global;
 use std::marker::Model;
 
 /// How many sessions are kept at once.
 pub const SESSIONS: usize = 1024;
 
-/// Octets of the longest answer.
-pub const LONGEST_ANSWER: usize = 65_538;
+/// Octets that an answer has room in while it is written.
+pub const ANSWER_ROOM: usize = 65_567;
 
 /// The sessions, in the order in which they were opened.
 #[derive(Drop)]
@@ -37,12 +38,13 @@ pub struct Sessions {
 impl Model for Sessions {
     ghost use Rattle.std.specs.Prelude.{◌≤◌, List, vec_len, vec_capacity};
     ghost use Rattle.replay_table.specs.declared.session.Session.{Session};
+    ghost use Rattle.replay_table.specs.Stands.{AreKeyed};
 
     ghost Value = { List Session };
 
     ghost view = { λ s. s.list.items };
 
-    ghost invariant = { λ s. (vec_len s.list ≤ 1024) × (1024 ≤ vec_capacity s.list) };
+    ghost invariant = { λ s. (vec_len s.list ≤ 1024) × (1024 ≤ vec_capacity s.list) × AreKeyed s.list.items };
 }
 
 #[tactic(auto, unfolding(refl_types::specs::Same::same_key))]
@@ -79,28 +81,14 @@ fn place_of(list: &[Session], meta: &Meta, octets: &[u8]) -> Option<usize>
         .position(|session| matches(meta, octets, &session.key))
 }
 
-/// Whether a session is served yet.
-#[tactic(auto, unfolding(crate::specs::Outcomes::is_served))]
-fn is_served(key: &Key, config: &Config) -> bool
-    ensures { (x : Extra) → result ≡ is_served (record { key = key.now; extra = x; config = config.now }) }
-{
-    let parts = config.as_parts();
-    matches!(key.mode, Mode::Plain)
-        && parts.stateful
-        && matches!(parts.clock, Clock::Ntp)
-        && parts.key.is_none()
-        && parts.tlvs == 0
-}
-
 /// The code of an opening, by what is known of its key.
 #[tactic(auto, unfolding(crate::specs::Outcomes::code_of))]
 fn code_of(bound: bool, clash: bool, count: usize, key: &Key, config: &Config) -> u8
     ensures value { (x : Extra) → result ≡ code_of bound clash count (record { key = key.now; extra = x; config = config.now }) }
     ensures room { result ≡ 0 → count ≢ 1024 }
+    ensures keyed { result ≡ 0 → HasKey key.now.mode config.now }
 {
-    if !is_served(key, config) {
-        NOT_SERVED
-    } else if bound {
+    if bound {
         DUPLICATE
     } else if clash {
         MODE_CLASH
@@ -117,6 +105,7 @@ fn code_of(bound: bool, clash: bool, count: usize, key: &Key, config: &Config) -
 fn opening_code(list: &[Session], key: &Key, config: &Config) -> u8
     ensures value { (x : Extra) (t : Table) → Stands list.now t → result ≡ opening_code t (record { key = key.now; extra = x; config = config.now }) }
     ensures room { result ≡ 0 → length list.now ≢ 1024 }
+    ensures keyed { result ≡ 0 → HasKey key.now.mode config.now }
 {
     let bound = is_bound(list, key);
     let clash = has_clash(list, key);
@@ -138,31 +127,38 @@ fn keep(list: &mut Vec<Session>, session: Session)
 
 /// Answers a datagram.
 fn arrive(list: &mut [Session], meta: &Meta, t3: u64, octets: &[u8], out: &mut [u8]) -> usize
-    requires { 65538 ≤ length out.old }
+    requires keyed { AreKeyed list.old }
+    requires measured { meta.now.len ≡ length octets.now }
+    requires limit { length octets.now ≤ 65507 }
+    requires room { 65567 ≤ length out.old }
+    ensures keyed { AreKeyed list.new }
     ensures fits { result ≤ 65538 }
     ensures answered { (t : Table) → Stands list.old t → IsAnswered t list.new (Arrives (datagram_of meta.now t3 octets.now)) out.old out.new result }
 {
     let Some(place) = place_of(list, meta, octets) else {
         return write_outcome(&Outcome::Unsent(NO_SESSION), out);
     };
-    if octets.len() > PLAIN_LEN {
-        return write_outcome(&Outcome::Unsent(NOT_SERVED), out);
+    let session = &list[place];
+    match judge(&session.key, &session.config, octets) {
+        Judged::Silent(Silent::Short) => write_outcome(&Outcome::Unsent(SHORT), out),
+        Judged::Silent(Silent::BadHmac) => write_outcome(&Outcome::Unsent(BAD_HMAC), out),
+        Judged::Reflect => {
+            let len = write_reflection(session, meta, t3, octets, out);
+            let session = &mut list[place];
+            session.count = session.count.wrapping_add(1);
+            len
+        }
     }
-    let Ok(request) = read_plain(octets) else {
-        return write_outcome(&Outcome::Unsent(SHORT), out);
-    };
-    let session = &mut list[place];
-    let len = write_reflection(session, meta, t3, &request, out);
-    session.count = session.count.wrapping_add(1);
-    len
 }
 
 /// Answers an opening. The list has room for all sessions.
 fn open(list: &mut Vec<Session>, key: &Key, extra: &Extra, config: &Config, out: &mut [u8]) -> usize
-    requires out { 65538 ≤ length out.old }
+    requires keyed { AreKeyed list.old.items }
+    requires out { 65567 ≤ length out.old }
     requires len { vec_len list.old ≤ 1024 }
     requires room { 1024 ≤ vec_capacity list.old }
     ensures answered { (t : Table) → Stands list.old.items t → IsAnswered t list.new.items (Opens (record { key = key.now; extra = extra.now; config = config.now })) out.old out.new result }
+    ensures keyed { AreKeyed list.new.items }
     ensures fits { result ≤ 65538 }
     ensures len { vec_len list.new ≤ 1024 }
     ensures room { 1024 ≤ vec_capacity list.new }
@@ -182,7 +178,8 @@ fn open(list: &mut Vec<Session>, key: &Key, extra: &Extra, config: &Config, out:
 }
 
 impl Sessions {
-    ghost use Rattle.replay_format.specs.View.{item_of};
+    ghost use Rattle.replay_format.specs.Records.{Fits};
+    ghost use Rattle.replay_format.specs.View.{item_of, IsMeasured};
 
     /// No session, and room for as many as are kept.
     pub fn make(alloc: Global) -> Result<Sessions, Memory>
@@ -196,12 +193,14 @@ impl Sessions {
 
     /// Writes the answer to a record at the front, says how many octets it has, and keeps the table that the record
     /// leaves. Later octets stay.
-    pub fn answer(&mut self, record: &Record, out: &mut [u8]) -> usize
-        requires { 65538 ≤ length out.old }
-        ensures answered { (t : Table) → Stands self.old t → IsAnswered t self.new (item_of record.now) out.old out.new result }
+    pub fn answer(&mut self, item: &Record, out: &mut [u8]) -> usize
+        requires room { 65567 ≤ length out.old }
+        requires measured { IsMeasured item.now }
+        requires fits { Fits (item_of item.now) }
+        ensures answered { (t : Table) → Stands self.old t → IsAnswered t self.new (item_of item.now) out.old out.new result }
         ensures fits { result ≤ 65538 }
     {
-        match record {
+        match item {
             Record::Open { key, extra, config } => open(&mut self.list, key, extra, config, out),
             Record::Datagram { meta, t3, octets } => {
                 arrive(&mut self.list, meta, *t3, octets, out)

@@ -206,3 +206,18 @@ begun_short octets b = omega (arith, spelling_short b.0 b.2, ap length b.4, leng
 
 pub front_length : (octets : List ℕ) (item : Item) (n : ℕ) → IsFront octets item n → n ≤ length octets
 front_length octets item n f = omega (arith, f.len, ap length f.spelled, length-append (spelling item) (drop n octets))
+
+-- where the source told a stream it did not leave its grammar, and where it told none it was not done
+pub left_none : (left0 left w w' : Option (List ℕ)) (octets : List ℕ) (records : List Item) → HasLeft left0 left w w' → left0 ≡ Some octets → IsStream octets records → ⊥
+left_none left0 left w w' octets records h e s = told left0 e (left_no_stream left0 left w w' h)
+  where
+    told : (l : Option (List ℕ)) → l ≡ Some octets → IfSome l IsNoStream → ⊥
+    told None f n = absurd cc
+    told (Some o) f n = let same : o ≡ octets = cc in n records (subst (λ (x : List ℕ). IsStream x records) (sym same) s)
+
+pub done_none : (left0 left w w' : Option (List ℕ)) (octets : List ℕ) → IsDone left0 left w w' → left0 ≡ Some octets → IsNoStream octets → ⊥
+done_none left0 left w w' octets d e none = told left0 e (done_stream left0 left w w' d)
+  where
+    told : (l : Option (List ℕ)) → l ≡ Some octets → IfSome l (λ o. (records : List Item) × IsStream o records) → ⊥
+    told None f n = absurd cc
+    told (Some o) f n = let same : o ≡ octets = cc in none n.0 (subst (λ (x : List ℕ). IsStream x n.0) same n.1)

@@ -1,16 +1,17 @@
 //! The commands that wait for nobody.
 
-ghost use Rattle.std.specs.Prelude.{◌≡◌, ◌≢◌, ◌⊎◌, ◌≤◌, ◌++◌, IfSome, IsTrue, map, string_bytes};
-ghost use Rattle.std.specs.Io.KnownBytes.{Appends};
+ghost use Rattle.std.specs.Prelude.{ℕ, ◌≡◌, ◌≢◌, ◌⊎◌, ◌≤◌, ◌++◌, List, Some, IfSome, IsTrue, map, string_bytes};
+ghost use Rattle.std.specs.Io.KnownBytes.{Appends, Keeps};
+ghost use Rattle.replay_format.specs.Records.{Item};
 ghost use Rattle.replay_format.specs.Answers.{Left, answer_octets};
 ghost use Rattle.stampd.specs.Buffers.{due};
 ghost use Rattle.port_io.specs.Outside.{Rises, AppendsFront};
-ghost use Rattle.stampd.specs.Command.{IsReplay, usage};
+ghost use Rattle.stampd.specs.Command.{IsReplay, IsUsage};
 ghost use Rattle.stampd.specs.Replay.{IsStream, IsNoStream, IsDone, HasLeft, WasCutOff, WasStopped, IsUntouched};
 
 use crate::outbox::Outbox;
 use crate::read_ahead::ReadAhead;
-use port_io::{Sink, Source};
+use port_io::{Sink, Source, write_all};
 use replay_format::{Parsed, read_record};
 use replay_table::Sessions;
 use std::alloc::Global;
@@ -104,5 +105,81 @@ pub fn replay<S: Source, K: Sink>(alloc: Global, input: &mut S, out: &mut K) -> 
                 ahead.advance(len);
             }
         }
+    }
+}
+
+/// Whether the words are just `replay`.
+fn is_replay(words: &[String]) -> bool
+    ensures yes { IsTrue result → IsReplay (map string_bytes words.now) }
+    ensures no { IsReplay (map string_bytes words.now) → IsTrue result }
+{
+    match words {
+        [word] => word.as_str() == "replay",
+        _ => false,
+    }
+}
+
+/// Says that the words are no command.
+fn refuse<K: Sink>(out: &mut K) -> u8
+    ensures status { result ≡ 2 }
+    ensures usage { IsUsage (K.written out.old) (K.written out.new) (K.faults out.old) (K.faults out.new) }
+{
+    match write_all(out, USAGE) {
+        Ok(()) => 2,
+        Err(_) => 2,
+    }
+}
+
+/// The line that is written where the words are no command.
+const USAGE: &[u8] = b"stampd: usage\n";
+
+/// Runs the command that the words name, and gives the status with which the program ends: 0 where all records of the
+/// input were answered, 2 where the words are no command, 4 for want of memory, 6 where the input left its grammar, 7
+/// where a read failed and 8 where a write failed.
+pub fn offline<S: Source, K: Sink>(
+    alloc: Global,
+    words: &[String],
+    input: &mut S,
+    out: &mut K,
+) -> u8
+    ensures statuses { (result ≡ 0) ⊎ (result ≡ 2) ⊎ (result ≡ 4) ⊎ (result ≡ 6) ⊎ (result ≡ 7) ⊎ (result ≡ 8) }
+
+    // The words are no command: the input is untouched.
+    ensures usage { result ≡ 2 → (IsReplay (map string_bytes words.now) → ⊥)
+        × Keeps (S.left input.old) (S.left input.new)
+        × IsUsage (K.written out.old) (K.written out.new) (K.faults out.old) (K.faults out.new) }
+    ensures command { result ≢ 2 → IsReplay (map string_bytes words.now) }
+
+    // All that the source held is records, and just their answers were written.
+    ensures done { result ≡ 0 → IsDone (S.left input.old) (S.left input.new) (K.written out.old) (K.written out.new) }
+    ensures memory { result ≡ 4 → IsUntouched (S.left input.old) (S.left input.new) (K.written out.old) (K.written out.new) }
+
+    // The stream left its grammar: all records before are answered, and then its offset is written.
+    ensures grammar { result ≡ 6 → HasLeft (S.left input.old) (S.left input.new) (K.written out.old) (K.written out.new) }
+    ensures no_stream { result ≡ 6 → IfSome (S.left input.old) IsNoStream }
+
+    // A read failed: all whole records that were read are answered.
+    ensures input { result ≡ 7 → WasCutOff (S.left input.old) (S.left input.new) (K.written out.old) (K.written out.new) }
+    ensures read_fault { result ≡ 7 → Rises (S.faults input.old) (S.faults input.new) }
+
+    // A write failed: a front of what was due was written.
+    ensures output { result ≡ 8 → WasStopped (S.left input.old) (S.left input.new) (K.written out.old) (K.written out.new) }
+    ensures write_fault { result ≡ 8 → Rises (K.faults out.old) (K.faults out.new) }
+
+    // Where nothing fails, a stream is answered, and what is none is told so.
+    ensures complete { (octets : List ℕ) (records : List Item) → S.left input.old ≡ Some octets → IsStream octets records → IsReplay (map string_bytes words.now)
+        → (Rises (S.faults input.old) (S.faults input.new) → ⊥) → (Rises (K.faults out.old) (K.faults out.new) → ⊥) → (result ≡ 0) ⊎ (result ≡ 4) }
+    ensures refused { (octets : List ℕ) → S.left input.old ≡ Some octets → IsNoStream octets → IsReplay (map string_bytes words.now)
+        → (Rises (S.faults input.old) (S.faults input.new) → ⊥) → (Rises (K.faults out.old) (K.faults out.new) → ⊥) → (result ≡ 6) ⊎ (result ≡ 4) }
+{
+    if !is_replay(words) {
+        return refuse(out);
+    }
+    match replay(alloc, input, out) {
+        ReplayEnd::Done => 0,
+        ReplayEnd::Memory => 4,
+        ReplayEnd::Grammar => 6,
+        ReplayEnd::Input => 7,
+        ReplayEnd::Output => 8,
     }
 }

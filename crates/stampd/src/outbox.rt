@@ -3,7 +3,8 @@
 ghost use Rattle.std.specs.Prelude.{ℕ, ◌≡◌, ◌+◌, ◌≤◌, ◌↔◌, ◌++◌, List, [], length, take, vec_len, IsTrue, IfOk, OnOk, OnErr};
 ghost use Rattle.std.specs.Io.KnownBytes.{Appends};
 ghost use Rattle.port_io.specs.Outside.{Rises, AppendsFront};
-ghost use Rattle.replay_format.specs.View.{item_of};
+ghost use Rattle.replay_format.specs.View.{item_of, IsMeasured};
+ghost use Rattle.replay_format.specs.Records.{Fits};
 ghost use Rattle.replay_format.specs.Answers.{Left, answer_octets};
 ghost use Rattle.replay_table.specs.Table.{Table};
 ghost use Rattle.replay_table.specs.Outcomes.{answer, after};
@@ -12,7 +13,7 @@ ghost use Rattle.replay_table.specs.Stands.{Stands};
 use port_io::{Failed, Sink, write_all};
 use refl_types::Memory;
 use replay_format::{Outcome, Record, write_outcome};
-use replay_table::{LONGEST_ANSWER, Sessions};
+use replay_table::{ANSWER_ROOM, Sessions};
 use std::alloc::Global;
 
 /// Octets of the buffer.
@@ -42,9 +43,9 @@ impl Outbox {
 
     /// Whether the longest answer has room.
     pub fn has_room(&self) -> bool
-        ensures { IsTrue result ↔ (self.now.used + 65538 ≤ 524288) }
+        ensures { IsTrue result ↔ (self.now.used + 65567 ≤ 524288) }
     {
-        self.used + LONGEST_ANSWER <= ROOM
+        self.used + ANSWER_ROOM <= ROOM
     }
 
     /// Writes what is due.
@@ -62,7 +63,7 @@ impl Outbox {
 
     /// Makes room for the longest answer: where there is none, what is due is written.
     pub fn make_room<K: Sink>(&mut self, out: &mut K) -> Result<(), Failed>
-        ensures room { OnOk result (self.new.used + 65538 ≤ 524288) }
+        ensures room { OnOk result (self.new.used + 65567 ≤ 524288) }
         ensures some { OnOk result ((octets : List ℕ) × Appends (K.written out.old) (K.written out.new) octets × (octets ++ due self.new ≡ due self.old)) }
         ensures front { OnErr result (AppendsFront (K.written out.old) (K.written out.new) (due self.old)) }
         ensures count { K.faults out.old ≤ K.faults out.new }
@@ -75,16 +76,18 @@ impl Outbox {
     }
 
     /// Adds the answer to a record.
-    pub fn answer(&mut self, sessions: &mut Sessions, record: &Record)
-        requires { self.old.used + 65538 ≤ 524288 }
-        ensures { (t : Table) → Stands sessions.old t → (due self.new ≡ due self.old ++ answer_octets (answer t (item_of record.now))) × Stands sessions.new (after t (item_of record.now)) }
+    pub fn answer(&mut self, sessions: &mut Sessions, item: &Record)
+        requires room { self.old.used + 65567 ≤ 524288 }
+        requires measured { IsMeasured item.now }
+        requires fits { Fits (item_of item.now) }
+        ensures { (t : Table) → Stands sessions.old t → (due self.new ≡ due self.old ++ answer_octets (answer t (item_of item.now))) × Stands sessions.new (after t (item_of item.now)) }
     {
-        self.used += answer_behind(sessions, record, &mut self.octets, self.used);
+        self.used += answer_behind(sessions, item, &mut self.octets, self.used);
     }
 
     /// Adds where the stream left its grammar.
     pub fn leave(&mut self, offset: u64)
-        requires { self.old.used + 65538 ≤ 524288 }
+        requires { self.old.used + 65567 ≤ 524288 }
         ensures { due self.new ≡ due self.old ++ answer_octets (Left offset) }
     {
         self.used += leave_behind(offset, &mut self.octets, self.used);
@@ -92,17 +95,19 @@ impl Outbox {
 }
 
 /// Writes an answer from a place on.
-fn answer_behind(sessions: &mut Sessions, record: &Record, octets: &mut [u8], at: usize) -> usize
-    requires { at + 65538 ≤ length octets.old }
+fn answer_behind(sessions: &mut Sessions, item: &Record, octets: &mut [u8], at: usize) -> usize
+    requires room { at + 65567 ≤ length octets.old }
+    requires measured { IsMeasured item.now }
+    requires fits { Fits (item_of item.now) }
     ensures fits { result ≤ 65538 }
-    ensures answer { (t : Table) → Stands sessions.old t → (take (at + result) octets.new ≡ take at octets.old ++ answer_octets (answer t (item_of record.now))) × Stands sessions.new (after t (item_of record.now)) }
+    ensures answer { (t : Table) → Stands sessions.old t → (take (at + result) octets.new ≡ take at octets.old ++ answer_octets (answer t (item_of item.now))) × Stands sessions.new (after t (item_of item.now)) }
 {
-    sessions.answer(record, &mut octets[at..])
+    sessions.answer(item, &mut octets[at..])
 }
 
 /// Writes an offset from a place on.
 fn leave_behind(offset: u64, octets: &mut [u8], at: usize) -> usize
-    requires { at + 65538 ≤ length octets.old }
+    requires { at + 65567 ≤ length octets.old }
     ensures fits { result ≤ 65538 }
     ensures answer { take (at + result) octets.new ≡ take at octets.old ++ answer_octets (Left offset) }
 {

@@ -1,39 +1,44 @@
-use Rattle.std.proofs.Common.{◌≡◌, ℕ, List, ◌+◌, ◌-◌, ◌≤◌, ◌++◌, length, take, drop, sym, ap, subst, ◌∙◌, arith}
-use Rattle.std.proofs.lemmas.List.{length-append, length-take, length-drop}
-use Rattle.stamp_packet.specs.Plain.{plain_reply}
-use Rattle.replay_format.specs.Records.{datagram_of}
+use Rattle.std.proofs.Common.{◌≡◌, ℕ, List, ◌+◌, ◌-◌, ◌++◌, length, take, drop, sym, ap, ◌∙◌, arith}
+use borrow.Rule.Slice.PartMut.{put_mid}
+use Rattle.refl_types.specs.declared.types.Endpoint.{Endpoint}
+use Rattle.refl_types.specs.declared.types.Meta.{Meta}
+use Rattle.refl_types.specs.declared.config.ConfigParts.{ConfigParts}
+use Rattle.refl_types.specs.declared.types.Key.{Key}
+use Rattle.refl_types.specs.declared.types.Extra.{Extra}
+use Rattle.reflect_core.specs.Reflection.{Reflected, reflection}
+use Rattle.replay_format.specs.Records.{Datagram, datagram_of}
 use Rattle.replay_format.specs.Answers.{Sending, answer_octets, sent_octets}
 use Rattle.replay_format.proofs.AnswerFacts.{framed_behind}
-use Rattle.replay_table.specs.Reflection.{reply_of, reflection}
+use Rattle.replay_table.specs.Table.{Entry}
+use Rattle.replay_table.specs.Reflection.{sending, sent_under, meta_of}
 use Rattle.replay_table.specs.Stands.{StandsFor}
+use Rattle.replay_table.proofs.ReplyFacts.{sending_is}
 use Rattle.replay_table.proofs.reply.write_reflection.Goals as goal
 
--- the octets that are lent to the writer of the reply
-abbrev lent : List ℕ → List ℕ
-lent old = take (length old - 31) (drop 31 old)
-
-length-lent : (old : List ℕ) → 75 ≤ length old → length (lent old) ≡ length old - 31
-length-lent old fits = omega (arith, length-take (length old - 31) (drop 31 old), length-drop 31 old)
-
 pub returns-clause-octets : goal.returns-clause-octets
-unfolding answer_octets reflection
-returns-clause-octets c = λ e octets stands same.
-    let d = datagram_of c.args.meta.now c.args.t3 octets in
-    let reply = plain_reply (reply_of e d) in
+unfolding answer_octets
+returns-clause-octets c = λ e stands.
+    let s = c.args.session.now in
+    let d : Datagram = datagram_of c.args.meta.now c.args.t3 c.args.octets.now in
+    let r : Reflected = reflection s.key s.extra s.config s.count c.args.meta.now c.args.t3 c.args.octets.now in
+    let reply = c.reflect-reply.result in
+    let is = c.reflect-reply.ensures.reply in
     let old = c.args.out.now in
-    let wrote = c.write_reply.ensures e octets stands same in
-    let sized : length reply ≡ 44 = omega (arith, ap length wrote, length-append reply (drop 44 (lent old)), length-drop 44 (lent old), c.write_reply.auto.out, length-lent old c.requires, c.requires) in
-    let s : Sending = record { from = d.local; to = d.peer; number = c.args.session.now.count; octets = reply } in
-    framed_behind s 44 old c.write_reply.new.out c.frame_reply.new.out sized (omega (arith, c.requires)) wrote c.frame_reply.ensures.octets
-    ∙ ap (λ (n : ℕ). sent_octets (record s { number = n }) ++ drop 75 old) stands.count
+    let n = reply.len in
+    framed_behind (sent_under s.count r) n old c.reflect-reply.new.out c.frame_reply.new.out (sym is.len) (omega (arith, c.requires.room, c.reflect-reply.ensures.limit)) is.octets
+    (c.frame_reply.ensures.octets
+    ∙ ap (λ (x : ℕ). sent_octets (record { from = x; to = reply.to; number = s.count; octets = take n (drop 31 (put_mid 31 (length old - 31) old c.reflect-reply.new.out)) }) ++ drop (31 + n) (put_mid 31 (length old - 31) old c.reflect-reply.new.out)) is.from
+    ∙ ap (λ (x : Endpoint). sent_octets (record { from = r.from; to = x; number = s.count; octets = take n (drop 31 (put_mid 31 (length old - 31) old c.reflect-reply.new.out)) }) ++ drop (31 + n) (put_mid 31 (length old - 31) old c.reflect-reply.new.out)) is.to)
+    ∙ ap (λ (x : Sending). sent_octets x ++ drop (31 + n) old) (sym (sending_is s e c.args.meta.now c.args.t3 c.args.octets.now c.requires.measured stands))
 
 pub returns-clause-len : goal.returns-clause-len
-unfolding answer_octets reflection
-returns-clause-len c = λ e octets stands same.
-    let d = datagram_of c.args.meta.now c.args.t3 octets in
-    let reply = plain_reply (reply_of e d) in
-    let old = c.args.out.now in
-    let wrote = c.write_reply.ensures e octets stands same in
-    let sized : length reply ≡ 44 = omega (arith, ap length wrote, length-append reply (drop 44 (lent old)), length-drop 44 (lent old), c.write_reply.auto.out, length-lent old c.requires, c.requires) in
-    let s : Sending = record { from = d.local; to = d.peer; number = c.args.session.now.count; octets = reply } in
-    ap (λ (n : ℕ). length (sent_octets (record s { number = n }))) (sym stands.count) ∙ c.frame_reply.ensures.len reply ∙ omega (arith, sized)
+unfolding answer_octets
+returns-clause-len c = λ e stands.
+    let s = c.args.session.now in
+    let r : Reflected = reflection s.key s.extra s.config s.count c.args.meta.now c.args.t3 c.args.octets.now in
+    let is = c.reflect-reply.ensures.reply in
+    ap (λ (n : ℕ). 31 + n) is.len
+    ∙ sym (c.frame_reply.ensures.len r.octets)
+    ∙ ap (λ (x : ℕ). length (sent_octets (record { from = x; to = c.reflect-reply.result.to; number = s.count; octets = r.octets }))) is.from
+    ∙ ap (λ (x : Endpoint). length (sent_octets (record { from = r.from; to = x; number = s.count; octets = r.octets }))) is.to
+    ∙ ap (λ (x : Sending). length (sent_octets x)) (sym (sending_is s e c.args.meta.now c.args.t3 c.args.octets.now c.requires.measured stands))
