@@ -1,4 +1,4 @@
-use Rattle.std.proofs.Common.{◌≡◌, ◌++◌, ◌∙◌, ℕ, List, length, drop, sym, ap, arith}
+use Rattle.std.proofs.Common.{◌≡◌, ◌++◌, ◌∙◌, ℕ, List, length, drop, ap, arith}
 use Rattle.octet_format.proofs.Fields.{Has, has_put, length_written}
 use Rattle.refl_types.specs.declared.types.Mode.TheVariants.{Auth}
 use Rattle.refl_types.specs.Spelling.{block_octets}
