@@ -11,8 +11,8 @@ use Rattle.reflect_core.specs.Reflection.{auth_octets}
 use Rattle.reflect_core.proofs.Modes.{base_is, block_is}
 use Rattle.reflect_core.proofs.reflecting.reflect_auth.Goals as goal
 
-pub returns-clause-octets : goal.returns-clause-octets
-returns-clause-octets c =
+pub returns : goal.returns
+returns c =
     let config = c.args.config.now in
     let n = c.args.n in
     let input = c.args.input.now in
