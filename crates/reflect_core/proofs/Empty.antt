@@ -1,12 +1,12 @@
 -- A tail without octets has a reply without octets.
-use Rattle.std.proofs.Common.{◌≡◌, ℕ, ◌+◌, ◌<◌, ◌∙◌, Option, Some, None, List, [], ◌∷◌, ◌++◌, length, refl, sym, ap, arith}
+use Rattle.std.proofs.Common.{◌≡◌, ℕ, ◌∙◌, Option, Some, None, List, [], refl, ap, arith}
 use Rattle.refl_types.specs.declared.types.Mode.{Mode}
 use Rattle.refl_types.specs.declared.types.Mode.TheVariants.{Plain, Auth, Twamp}
 use Rattle.refl_types.specs.declared.config.ConfigParts.{ConfigParts}
-use Rattle.tlv_chain.specs.Split.{Split, split, named_length}
+use Rattle.tlv_chain.specs.Split.{Split, split}
 use Rattle.tlv_chain.proofs.SplitFacts.{split_none, no_whole}
 use Rattle.tlv_integrity.specs.declared.integrity.Integrity.{Integrity}
-use Rattle.tlv_integrity.specs.declared.integrity.Integrity.TheVariants.{Absent, Passed, Failed}
+use Rattle.tlv_integrity.specs.declared.integrity.Integrity.TheVariants.{Absent}
 use Rattle.tlv_integrity.specs.Integrity.{integrity, integrity_under, integrity_of}
 use Rattle.reflect_core.specs.Tail.{reply_by, tail_reply}
 

@@ -1,5 +1,5 @@
 -- The reply of each mode.
-use Rattle.std.proofs.Common.{◌≡◌, ℕ, ◌≤◌, ◌<◌, ◌∙◌, Bool, true, false, if◌then◌else◌, nat_lt, ltb, Result, Ok, Err, Option, Some, None, List, [], ◌∷◌, ◌++◌, length, drop, refl, sym, ap, arith}
+use Rattle.std.proofs.Common.{◌≡◌, ℕ, ◌≤◌, ◌∙◌, Bool, true, false, if◌then◌else◌, ltb, Result, Ok, Err, Option, Some, List, ◌++◌, length, drop, refl, sym, ap, arith}
 use Rattle.std.proofs.lemmas.Bool.Decides.{nat_tests}
 use Rattle.octet_format.proofs.Fields.{length_written}
 use Rattle.refl_types.specs.declared.types.Mode.{Mode}

@@ -1,6 +1,6 @@
 -- What a pass over the TLVs of a tail keeps: what was written, with the reply of what is left, is the whole reply.
-use Rattle.std.proofs.Common.{◌≡◌, ℕ, ◌+◌, ◌-◌, ◌≤◌, ◌∙◌, Bool, true, false, if◌then◌else◌, List, [], ◌∷◌, ◌++◌, length, take, drop, refl, sym, ap, subst, append_assoc, arith}
-use Rattle.std.proofs.lemmas.List.{take_at, drop_at, length-append, length-drop, length-take-le}
+use Rattle.std.proofs.Common.{◌≡◌, ℕ, ◌≤◌, ◌∙◌, Bool, true, false, if◌then◌else◌, List, [], ◌++◌, length, take, drop, refl, sym, ap, subst, append_assoc, arith}
+use Rattle.std.proofs.lemmas.List.{take_at, length-append, length-drop}
 use Rattle.octet_format.specs.Octets.{IsBytes}
 use Rattle.octet_format.proofs.Obeys.{IsBytes-drop}
 use Rattle.refl_types.specs.declared.config.ConfigParts.{ConfigParts}
@@ -9,11 +9,11 @@ use Rattle.tlv_chain.specs.Tlv.{Tlv, tlv_octets, tlvs_octets}
 use Rattle.tlv_chain.specs.Split.{Split, split, add_first}
 use Rattle.tlv_chain.specs.Walking.{Walking, IsAtRest, WentPast, tlv_at}
 use Rattle.tlv_chain.proofs.SplitFacts.{split_is}
-use Rattle.tlv_chain.proofs.Walks.{Step, step_of, rest_of, past}
+use Rattle.tlv_chain.proofs.Walks.{step_of, rest_of, past}
 use Rattle.tlv_actions.specs.declared.reply.Acted.{Acted}
 use Rattle.tlv_actions.specs.declared.reply.Acted.TheVariants.{Done, Malformed}
 use Rattle.tlv_actions.specs.Rows.{WritesTlv, reply_tlv, is_malformed, acted_on}
-use Rattle.reflect_core.specs.Tail.{failed_reply, flagged, processed_reply, processed, with_flags}
+use Rattle.reflect_core.specs.Tail.{failed_reply, flagged, processed_reply}
 
 -- the reply of a split is whole
 pub record IsUnderWay (whole : Split → List ℕ) (tail : List ℕ) (w : Walking) (out : List ℕ) : Type 0 where

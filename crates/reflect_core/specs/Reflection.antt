@@ -31,6 +31,20 @@ reflected_octets Plain x c n d t3 octets = plain_octets c n (reply_base c n d t3
 reflected_octets Auth x c n d t3 octets = auth_octets c n (reply_base c n d t3 (auth_sender_of octets)) octets
 reflected_octets Twamp x c n d t3 octets = test_reply x (reply_base c n d t3 (test_sender_of octets)) octets
 
+-- ---- a buffer that begins with the reply of each mode, and is as before past its length
+
+abbrev pub WritesPlain : ConfigParts → ℕ → Meta → ℕ → List ℕ → List ℕ → List ℕ → Type 0
+WritesPlain c n d t3 octets old new =
+    new ≡ plain_octets c n (reply_base c n d t3 (sender_of octets)) octets ++ drop (length octets) old
+
+abbrev pub WritesAuth : ConfigParts → ℕ → Meta → ℕ → List ℕ → List ℕ → List ℕ → Type 0
+WritesAuth c n d t3 octets old new =
+    new ≡ auth_octets c n (reply_base c n d t3 (auth_sender_of octets)) octets ++ drop (length octets) old
+
+abbrev pub WritesTest : Extra → ConfigParts → ℕ → Meta → ℕ → List ℕ → ℕ → List ℕ → List ℕ → Type 0
+WritesTest x c n d t3 octets len old new =
+    new ≡ test_reply x (reply_base c n d t3 (test_sender_of octets)) octets ++ drop len old
+
 -- ---- a reply: from which local address, to whom, and its octets
 
 pub record Reflected : Type 0 where

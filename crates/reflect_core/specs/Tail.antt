@@ -1,6 +1,6 @@
 -- The tail of a reply (RFC 8972, section 4). What follows a malformed TLV, what becomes of a rest, and the flags after
 -- a failed integrity are this project's own.
-use Rattle.std.specs.Prelude.{ℕ, nat_lt, if◌then◌else◌, List, [], ◌∷◌, ◌++◌, length, drop, get_or, bit_or}
+use Rattle.std.specs.Prelude.{◌≡◌, ℕ, nat_lt, if◌then◌else◌, List, [], ◌∷◌, ◌++◌, length, take, drop, get_or, bit_or}
 use Rattle.std.specs.Int.{w32, to_be_bytes}
 use Rattle.octet_format.specs.Octets.{field}
 use Rattle.refl_types.specs.declared.types.Mode.{Mode}
@@ -58,3 +58,8 @@ tail_reply mode c n asked answered tail = reply_by (integrity mode c asked tail)
 -- the tail of the reply to a datagram whose base packet has as many octets, with a Sequence Number of the reply
 abbrev pub tail_after : ℕ → Mode → ConfigParts → ℕ → ℕ → List ℕ → List ℕ
 tail_after len mode c n sequence octets = tail_reply mode c n (field 0 4 octets) (to_be_bytes w32 sequence) (drop len octets)
+
+-- it stands in a buffer after as many octets, and all others are as before
+abbrev pub WritesTail : Mode → ConfigParts → ℕ → ℕ → ℕ → List ℕ → List ℕ → List ℕ → Type 0
+WritesTail mode c n sequence len octets old new =
+    new ≡ take len old ++ tail_after len mode c n sequence octets ++ drop (length octets) old

@@ -1,15 +1,10 @@
 //! The reflection of a datagram (RFC 8762, section 4.3; RFC 5357, section 4.2).
 
-ghost use Rattle.std.specs.Prelude.{◌≡◌, Some, ◌≤◌, ◌++◌, IsSome, length, drop};
+ghost use Rattle.std.specs.Prelude.{◌≡◌, Some, ◌≤◌, IsSome, length};
 ghost use Rattle.refl_types.specs.declared.types.Mode.TheVariants.{Twamp};
-ghost use Rattle.stamp_packet.specs.Plain.{sender_of};
-ghost use Rattle.stamp_auth.specs.Request.{auth_sender_of};
-ghost use Rattle.twamp_test.specs.Request.{test_sender_of};
-ghost use Rattle.twamp_test.specs.Reply.{test_reply};
 ghost use Rattle.reflect_core.specs.declared.judging.Judged.TheVariants.{Reflect};
 ghost use Rattle.reflect_core.specs.Judgement.{HasKey, judgement};
-ghost use Rattle.reflect_core.specs.Base.{reply_base};
-ghost use Rattle.reflect_core.specs.Reflection.{auth_octets, plain_octets, reflection, IsReply};
+ghost use Rattle.reflect_core.specs.Reflection.{WritesPlain, WritesAuth, WritesTest, reflection, IsReply};
 
 use crate::base::reply_base;
 use crate::tails::write_tail_after;
@@ -48,7 +43,7 @@ fn reflect_plain(
     requires judged { 44 ≤ length input.now }
     requires room { length input.now ≤ length out.old }
     ensures len { result ≡ length input.now }
-    ensures octets { out.new ≡ plain_octets config.now n (reply_base config.now n meta.now t3 (sender_of input.now)) input.now ++ drop result out.old }
+    ensures octets { WritesPlain config.now n meta.now t3 input.now out.old out.new }
 {
     let sender = read_plain(input).unwrap();
     let base = reply_base(config.as_parts(), n, meta, t3, &sender);
@@ -66,18 +61,16 @@ fn reflect_auth(
     t3: u64,
     input: &[u8],
     out: &mut [u8],
-) -> usize
+)
     requires key { config.now.key ≡ Some block.now }
     requires judged { 112 ≤ length input.now }
     requires room { length input.now ≤ length out.old }
-    ensures len { result ≡ length input.now }
-    ensures octets { out.new ≡ auth_octets config.now n (reply_base config.now n meta.now t3 (auth_sender_of input.now)) input.now ++ drop result out.old }
+    ensures { WritesAuth config.now n meta.now t3 input.now out.old out.new }
 {
     let sender = auth_sender(input);
     let base = reply_base(config.as_parts(), n, meta, t3, &sender);
     write_auth(block, &base, out);
     write_tail_after(Mode::Auth, config, n, base.sequence, AUTH_LEN, input, out);
-    input.len()
 }
 
 /// Writes the reply of an authenticated STAMP session.
@@ -93,7 +86,7 @@ fn reflect_auth_session(
     requires judged { 112 ≤ length input.now }
     requires room { length input.now ≤ length out.old }
     ensures len { result ≡ length input.now }
-    ensures octets { out.new ≡ auth_octets config.now n (reply_base config.now n meta.now t3 (auth_sender_of input.now)) input.now ++ drop result out.old }
+    ensures octets { WritesAuth config.now n meta.now t3 input.now out.old out.new }
 {
     if let Some(block) = &config.as_parts().key {
         reflect_auth(block, config, n, meta, t3, input, out);
@@ -115,7 +108,7 @@ fn reflect_test(
     requires limit { length input.now ≤ 65507 }
     requires room { 65536 ≤ length out.old }
     ensures limit { result ≤ 65507 }
-    ensures octets { out.new ≡ test_reply extra.now (reply_base config.now n meta.now t3 (test_sender_of input.now)) input.now ++ drop result out.old }
+    ensures octets { WritesTest extra.now config.now n meta.now t3 input.now result out.old out.new }
 {
     let sender = read_test(input).unwrap();
     let base = reply_base(config.as_parts(), n, meta, t3, &sender);

@@ -1,8 +1,8 @@
 //! The TLVs of a reply (RFC 8972, section 4), written in one pass.
 
-ghost use Rattle.std.specs.Prelude.{◌≡◌, ◌+◌, ◌≤◌, ◌++◌, length, take, drop, slice_index_or};
+ghost use Rattle.std.specs.Prelude.{◌≡◌, ◌+◌, ◌≤◌, ◌++◌, length, take, slice_index_or};
 ghost use Rattle.tlv_chain.specs.Split.{split};
-ghost use Rattle.reflect_core.specs.Tail.{failed_reply, processed_reply, tail_after, tail_reply, with_flags, rest_flags};
+ghost use Rattle.reflect_core.specs.Tail.{failed_reply, processed_reply, WritesTail, tail_reply, with_flags, rest_flags};
 
 use octet_format::{field4, put};
 use refl_types::{Config, Mode};
@@ -132,7 +132,7 @@ fn write_tail_at(
     requires base { 4 ≤ at }
     requires tail { at ≤ length input.now }
     requires room { length input.now ≤ length out.old }
-    ensures { out.new ≡ take at out.old ++ tail_after at mode config.now n sequence input.now ++ drop (length input.now) out.old }
+    ensures { WritesTail mode config.now n sequence at input.now out.old out.new }
 {
     let (_, tail) = input.split_at(at);
     let asked = field4(input, 0);
@@ -162,7 +162,7 @@ pub fn write_tail_after(
     requires base { 4 ≤ at }
     requires tail { at ≤ length input.now }
     requires room { length input.now ≤ length out.old }
-    ensures { out.new ≡ take at out.old ++ tail_after at mode config.now n sequence input.now ++ drop (length input.now) out.old }
+    ensures { WritesTail mode config.now n sequence at input.now out.old out.new }
 {
     if input.len() > at {
         write_tail_at(mode, config, n, sequence, at, input, out);

@@ -1,4 +1,7 @@
 //! Whole reflections, by tables. What is expected was worked out by hand, and HMACs by another implementation.
+ghost use Rattle.std.specs.Prelude.{◌≡◌, true};
+ghost use Rattle.reflect_core.specs.Judgement.{HasKey};
+
 use super::*;
 use refl_types::{Address, Clock, Config, ConfigParts, Endpoint, Extra, Key, Meta, Mode, Silent};
 use std::alloc::Global;
@@ -40,7 +43,9 @@ const AUTH_REQUEST: &[u8] =
 /// The same of a TWAMP sender.
 const TEST_REQUEST: &[u8] = b"\x00\x00\x00\x05\x11\x22\x33\x44\x55\x66\x77\x88\x00\x01";
 
-fn session(mode: Mode) -> Key {
+fn session(mode: Mode) -> Key
+    ensures { result.mode ≡ mode }
+{
     let ssid = if mode == Mode::Twamp { 0 } else { 7 };
     let peer = Endpoint {
         address: Address::V4([192, 0, 2, 1]),
@@ -54,7 +59,46 @@ fn session(mode: Mode) -> Key {
     }
 }
 
+fn has_key(mode: Mode, config: &Config) -> bool
+    ensures { result ≡ true → HasKey mode config.now }
+{
+    match mode {
+        Mode::Auth => config.as_parts().key.is_some(),
+        Mode::Plain | Mode::Twamp => true,
+    }
+}
+
 /// The reply to a datagram that arrived at 0 and is answered just before the first second, or nothing.
+fn answer(
+    alloc: Global,
+    key: &Key,
+    extra: &Extra,
+    config: &Config,
+    n: u32,
+    input: &[u8],
+) -> Result<Vec<u8>, Fail>
+    requires { HasKey key.now.mode config.now }
+{
+    if input.len() > 65_507 {
+        return Err("too long".into());
+    }
+    let Judged::Reflect = judge(key, config, input) else {
+        return Ok(Vec::new(alloc));
+    };
+    let meta = Meta {
+        local: 3,
+        peer: key.peer,
+        len: input.len(),
+        ttl: None,
+        arrival: 0,
+    };
+    let mut out = vec![in alloc; 0xEE; 65_536]?;
+    let reply = reflect(key, extra, config, n, &meta, 999_999_999, input, &mut out);
+    out.truncate(reply.len);
+    Ok(out)
+}
+
+/// The reply in a session of a mode, under a configuration of parts.
 fn reply_to(
     alloc: Global,
     mode: Mode,
@@ -65,23 +109,20 @@ fn reply_to(
 ) -> Result<Vec<u8>, Fail> {
     let key = session(mode);
     let config = Config::make(parts).ok().ok_or("no configuration")?;
-    if mode == Mode::Auth && config.as_parts().key.is_none() {
+    if !has_key(mode, &config) {
         return Err("no key".into());
     }
-    if input.len() > 65_507 || judge(&key, &config, input) != Judged::Reflect {
-        return Ok(Vec::new(alloc));
+    answer(alloc, &key, extra, &config, n, input)
+}
+
+/// The octets from a place on.
+fn octets_from(alloc: Global, octets: &[u8], at: usize) -> Result<Vec<u8>, Fail> {
+    if octets.len() < at {
+        return Err("too short".into());
     }
-    let meta = Meta {
-        local: 3,
-        peer: key.peer,
-        len: input.len(),
-        ttl: None,
-        arrival: 0,
-    };
-    let mut out = vec![in alloc; 0xEE; 65_536]?;
-    let reply = reflect(&key, extra, &config, n, &meta, 999_999_999, input, &mut out);
-    out.truncate(reply.len);
-    Ok(out)
+    let (_, rest) = octets.split_at(at);
+    let rest = Vec::from_slice(alloc, rest)?;
+    Ok(rest)
 }
 
 /// A datagram of a base packet and TLVs.
@@ -118,8 +159,8 @@ fn tlvs_of_a_session_without_key_are_answered_by_their_type(rt: HostRuntime) -> 
     ];
     for (parts, n, tail, want) in cases {
         let input = joined(rt.alloc(), REQUEST, tail)?;
-        let mut reply = reply_to(rt.alloc(), Mode::Plain, &NO_EXTRA, parts, n, &input)?;
-        let got = reply.split_off(44)?;
+        let reply = reply_to(rt.alloc(), Mode::Plain, &NO_EXTRA, parts, n, &input)?;
+        let got = octets_from(rt.alloc(), &reply, 44)?;
         assert_eq!(rt; got.as_slice(), want);
     }
     Ok(())
@@ -173,8 +214,8 @@ fn measured_tlvs_are_filled_in(rt: HostRuntime) -> Result<(), Fail> {
     ];
     for (parts, n, tail, want) in cases {
         let input = joined(rt.alloc(), REQUEST, tail)?;
-        let mut reply = reply_to(rt.alloc(), Mode::Plain, &NO_EXTRA, parts, n, &input)?;
-        let got = reply.split_off(44)?;
+        let reply = reply_to(rt.alloc(), Mode::Plain, &NO_EXTRA, parts, n, &input)?;
+        let got = octets_from(rt.alloc(), &reply, 44)?;
         assert_eq!(rt; got.as_slice(), want);
     }
     Ok(())
@@ -257,8 +298,8 @@ fn an_hmac_tlv_is_checked_and_sealed(rt: HostRuntime) -> Result<(), Fail> {
     ];
     for (parts, n, tail, want) in cases {
         let input = joined(rt.alloc(), REQUEST, tail)?;
-        let mut reply = reply_to(rt.alloc(), Mode::Plain, &NO_EXTRA, parts, n, &input)?;
-        let got = reply.split_off(44)?;
+        let reply = reply_to(rt.alloc(), Mode::Plain, &NO_EXTRA, parts, n, &input)?;
+        let got = octets_from(rt.alloc(), &reply, 44)?;
         assert_eq!(rt; got.as_slice(), want);
     }
     Ok(())
@@ -330,8 +371,8 @@ fn a_tail_of_an_authenticated_session_needs_an_hmac_tlv(rt: HostRuntime) -> Resu
     ];
     for (parts, n, tail, want) in cases {
         let input = joined(rt.alloc(), AUTH_REQUEST, tail)?;
-        let mut reply = reply_to(rt.alloc(), Mode::Auth, &NO_EXTRA, parts, n, &input)?;
-        let got = reply.split_off(112)?;
+        let reply = reply_to(rt.alloc(), Mode::Auth, &NO_EXTRA, parts, n, &input)?;
+        let got = octets_from(rt.alloc(), &reply, 112)?;
         assert_eq!(rt; got.as_slice(), want);
     }
     Ok(())
@@ -541,10 +582,10 @@ fn the_longest_tails_are_answered(rt: HostRuntime) -> Result<(), Fail> {
         empty.extend_from_slice(b"\x80\xC8\x00\x00")?;
     }
     empty.extend_from_slice(b"\x00\x00\x00")?;
-    let mut reply = reply_to(rt.alloc(), Mode::Plain, &NO_EXTRA, PARTS, 0, &empty)?;
+    let reply = reply_to(rt.alloc(), Mode::Plain, &NO_EXTRA, PARTS, 0, &empty)?;
     assert_eq!(rt; reply.len(), 65_507);
-    let got = reply.split_off(44)?;
-    let want = empty.split_off(44)?;
+    let got = octets_from(rt.alloc(), &reply, 44)?;
+    let want = octets_from(rt.alloc(), &empty, 44)?;
     assert_eq!(rt; got.as_slice(), want.as_slice());
     Ok(())
 }

@@ -1,9 +1,8 @@
 -- The fields that are read are those that stand there.
-use Rattle.std.proofs.Common.{◌≡◌, ℕ, ◌≤◌, List, ◌++◌, length, drop, refl, sym, ap, ◌∙◌, append_assoc, arith}
+use Rattle.std.proofs.Common.{◌≡◌, ℕ, ◌≤◌, List, ◌++◌, length, drop, refl, ◌∙◌, append_assoc, arith}
 use Rattle.std.specs.Int.{w16, w32, from_be_bytes, to_be_bytes}
 use Rattle.octet_format.specs.Octets.{IsBytes, field}
 use Rattle.octet_format.proofs.Fields.{cut, field_16, field_32}
-use Rattle.stamp_packet.specs.declared.fields.SenderBase.{SenderBase}
 use Rattle.stamp_auth.specs.Request.{auth_sender_of, auth_request_fields, IsAuthRequest}
 
 joined : (o n p q r a m b c d e x y : List ℕ) → o ≡ a ++ n → n ≡ m ++ p → p ≡ b ++ q → q ≡ c ++ r → r ≡ d ++ e → x ≡ a → y ≡ d → o ≡ ((((x ++ m) ++ b) ++ c) ++ y) ++ e

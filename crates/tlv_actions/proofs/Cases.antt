@@ -1,11 +1,9 @@
 -- The cases of a reply's TLV.
-use Rattle.std.proofs.Common.{◌≡◌, ℕ, ◌+◌, ◌≤◌, Bool, true, false, not, ◌&&◌, if◌then◌else◌, List, [], ◌∷◌, ◌++◌, length, take, drop, subst, ◌==◌, eqb, inl, inr, refl, sym, ap, ◌∙◌, append_assoc, arith}
-use Rattle.std.specs.Int.{w16, to_be_bytes}
+use Rattle.std.proofs.Common.{◌≡◌, ℕ, true, false, if◌then◌else◌, List, length, take, subst, ◌==◌, eqb, inl, inr, refl, ap}
 use Rattle.std.proofs.lemmas.Bool.{eqb-true}
 use Rattle.std.proofs.lemmas.Bool.Decides.{eqb_tells}
 use Rattle.refl_types.specs.declared.config.ConfigParts.{ConfigParts}
-use Rattle.tlv_chain.specs.Tlv.{Tlv, unrecognized, malformed, tlv_octets}
-use Rattle.tlv_actions.specs.declared.reply.Acted.{Acted}
+use Rattle.tlv_chain.specs.Tlv.{Tlv, unrecognized, malformed}
 use Rattle.tlv_actions.specs.declared.reply.Acted.TheVariants.{Done, Malformed}
 use Rattle.tlv_actions.specs.Rows.{is_understood, has_valid_length, measured, reply_value, reply_tlv, is_malformed, acted_on}
 

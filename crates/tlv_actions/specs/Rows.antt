@@ -1,6 +1,6 @@
 -- What a reply has for one TLV of its request (RFC 8972, section 4). Which types are supported besides Extra Padding,
 -- and that 4 is the only length of Timestamp Information, is this project's own.
-use Rattle.std.specs.Prelude.{◌≡◌, ℕ, ◌+◌, ◌/◌, ◌%◌, ◌^◌, Bool, true, false, ◌==◌, ◌&&◌, ◌||◌, not, if◌then◌else◌, List, ◌++◌, length, take, drop, is_some}
+use Rattle.std.specs.Prelude.{◌≡◌, ℕ, ◌+◌, ◌/◌, ◌%◌, ◌^◌, Bool, true, ◌==◌, ◌&&◌, ◌||◌, not, if◌then◌else◌, List, ◌++◌, length, take, drop, is_some}
 use Rattle.std.specs.Int.{w32, to_be_bytes}
 use Rattle.refl_types.specs.declared.config.ConfigParts.{ConfigParts}
 use Rattle.tlv_chain.specs.declared.span.Span.{Span}

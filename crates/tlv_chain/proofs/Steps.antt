@@ -4,8 +4,8 @@ use Rattle.std.proofs.lemmas.List.{drop-drop, length-drop}
 use Rattle.octet_format.specs.Octets.{field}
 use Rattle.tlv_chain.specs.declared.span.Span.{Span}
 use Rattle.tlv_chain.specs.Tlv.{Tlv}
-use Rattle.tlv_chain.specs.Split.{Split, IsWholeLength, has_whole, named_length, first_tlv, past_first, add_first, split}
-use Rattle.tlv_chain.specs.Walking.{Walking, IsAtRest, WentPast, tlv_at, left}
+use Rattle.tlv_chain.specs.Split.{IsWholeLength, has_whole, named_length, first_tlv, past_first, add_first, split}
+use Rattle.tlv_chain.specs.Walking.{Walking, IsAtRest, WentPast, tlv_at}
 use Rattle.tlv_chain.proofs.SplitFacts.{split_more, split_none}
 
 pub stays : (w : Walking) (o : List ℕ) → o ≡ drop w.at w.tail → has_whole o ≡ false → IsAtRest w w

@@ -1,10 +1,8 @@
 -- Steps of a walk, by places of its tail, for loops over it.
-use Rattle.std.proofs.Common.{◌≡◌, ℕ, ◌+◌, ◌≤◌, ◌<◌, ◌∙◌, List, [], ◌∷◌, length, drop, refl, sym, ap, subst, arith}
-use Rattle.octet_format.specs.Octets.{field}
+use Rattle.std.proofs.Common.{◌≡◌, ℕ, ◌+◌, ◌≤◌, ◌∙◌, List, [], length, drop, sym, ap, subst, arith}
 use Rattle.octet_format.proofs.Fields.{length-field}
 use Rattle.tlv_chain.specs.declared.span.Span.{Span}
-use Rattle.tlv_chain.specs.Tlv.{Tlv}
-use Rattle.tlv_chain.specs.Split.{Split, split, add_first}
+use Rattle.tlv_chain.specs.Split.{split, add_first}
 use Rattle.tlv_chain.specs.Walking.{Walking, IsAtRest, WentPast, tlv_at}
 
 -- the place past the TLV at a span

@@ -1,5 +1,5 @@
 -- A TLV and its octets (RFC 8972, section 4).
-use Rattle.std.specs.Prelude.{ℕ, ◌+◌, ◌<◌, ◌^◌, List, [], ◌∷◌, ◌++◌, length}
+use Rattle.std.specs.Prelude.{ℕ, ◌<◌, ◌^◌, List, [], ◌∷◌, ◌++◌, length}
 use Rattle.std.specs.Int.{w16, to_be_bytes}
 
 pub record Tlv : Type 0 where

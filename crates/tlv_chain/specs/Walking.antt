@@ -1,5 +1,5 @@
 -- What a walk has come to, and its steps.
-use Rattle.std.specs.Prelude.{◌≡◌, ℕ, ◌+◌, ◌≤◌, List, [], ◌∷◌, length, drop, Option, Some, None}
+use Rattle.std.specs.Prelude.{◌≡◌, ℕ, ◌+◌, ◌≤◌, List, [], length, drop, Option, Some, None}
 use Rattle.octet_format.specs.Octets.{field}
 use Rattle.tlv_chain.specs.declared.span.Span.{Span}
 use Rattle.tlv_chain.specs.Tlv.{Tlv}

@@ -1,11 +1,11 @@
 -- What the walks to the first HMAC TLV and over padding keep.
-use Rattle.std.proofs.Common.{◌≡◌, ℕ, ◌+◌, ◌≤◌, ◌∙◌, Bool, true, false, if◌then◌else◌, ◌==◌, eqb, List, [], ◌∷◌, ◌++◌, length, drop, Option, Some, None, option_to_list, refl, sym, ap, subst, arith}
+use Rattle.std.proofs.Common.{◌≡◌, ℕ, ◌+◌, ◌≤◌, ◌∙◌, Bool, true, false, if◌then◌else◌, eqb, List, ◌∷◌, length, drop, Some, option_to_list, refl, sym, ap, subst, arith}
 use Rattle.tlv_chain.specs.declared.span.Span.{Span}
 use Rattle.tlv_chain.specs.Tlv.{Tlv}
 use Rattle.tlv_chain.specs.Split.{Split, split, add_first}
 use Rattle.tlv_chain.specs.Walking.{Walking, IsAtRest, WentPast, tlv_at}
-use Rattle.tlv_chain.proofs.Walks.{Step, step_of, rest_of, past, length-value_at}
-use Rattle.tlv_integrity.specs.Heads.{Placed, first_from, placed_at, IsFirstHmac, HasNoHmac, heads, kinds, rest_head, all_padding}
+use Rattle.tlv_chain.proofs.Walks.{step_of, rest_of, past, length-value_at}
+use Rattle.tlv_integrity.specs.Heads.{first_from, IsFirstHmac, HasNoHmac, heads, rest_head, all_padding}
 
 -- ---- to the first HMAC TLV
 

@@ -1,6 +1,6 @@
 -- The heads of a tail: the types of the TLVs of its split, and the type octet of a rest of four octets or more. This is
 -- this project's own.
-use Rattle.std.specs.Prelude.{◌≡◌, ℕ, ◌+◌, ◌≤◌, Bool, true, false, ◌==◌, nat_lt, if◌then◌else◌, List, [], ◌∷◌, ◌++◌, length, drop, get_or, map, Option, Some, None, option_to_list}
+use Rattle.std.specs.Prelude.{◌≡◌, ℕ, ◌+◌, ◌≤◌, Bool, true, false, ◌==◌, nat_lt, if◌then◌else◌, List, [], ◌∷◌, ◌++◌, length, drop, get_or, Option, Some, None, option_to_list}
 use Rattle.octet_format.specs.Octets.{field}
 use Rattle.tlv_chain.specs.declared.span.Span.{Span}
 use Rattle.tlv_chain.specs.Tlv.{Tlv}

@@ -1,4 +1,4 @@
-use Rattle.std.proofs.Common.{◌≡◌, ◌<◌, ◌∙◌, sym, ap, ℕ, bit_xor, length, take, drop, arith}
+use Rattle.std.proofs.Common.{◌<◌, ap, ℕ, bit_xor, length, take, drop, arith}
 use Rattle.std.proofs.lemmas.List.{get_or_default, length-append, length-map, length-take, length-drop}
 use Rattle.std.proofs.lemmas.List.Edits.{map_over_more}
 use Rattle.hmac_sha256.specs.Hmac.{pad}

@@ -1,4 +1,4 @@
-use Rattle.std.proofs.Common.{◌≡◌, ◌++◌, ◌∙◌, ℕ, List, length, drop, sym, ap, arith}
+use Rattle.std.proofs.Common.{◌≡◌, ◌++◌, ◌∙◌, ℕ, List, length, drop, ap, arith}
 use Rattle.octet_format.proofs.Fields.{Has, has_put, length_written}
 use Rattle.refl_types.specs.declared.types.Mode.TheVariants.{Auth}
 use Rattle.refl_types.specs.Spelling.{block_octets}
@@ -11,8 +11,8 @@ use Rattle.reflect_core.specs.Reflection.{auth_octets}
 use Rattle.reflect_core.proofs.Modes.{base_is, block_is}
 use Rattle.reflect_core.proofs.reflecting.reflect_auth.Goals as goal
 
-pub returns-clause-octets : goal.returns-clause-octets
-returns-clause-octets c =
+pub returns : goal.returns
+returns c =
     let config = c.args.config.now in
     let n = c.args.n in
     let input = c.args.input.now in

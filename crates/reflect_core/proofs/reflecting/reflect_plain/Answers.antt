@@ -1,4 +1,4 @@
-use Rattle.std.proofs.Common.{◌≡◌, ◌++◌, ◌∙◌, ℕ, List, length, drop, sym, ap, arith}
+use Rattle.std.proofs.Common.{◌≡◌, ◌++◌, ◌∙◌, length, drop, sym, ap, arith}
 use Rattle.octet_format.proofs.Fields.{Has, has_put, length_written}
 use Rattle.refl_types.specs.declared.types.Mode.TheVariants.{Plain}
 use Rattle.stamp_packet.specs.declared.fields.ReplyBase.{ReplyBase}

@@ -1,4 +1,4 @@
-use Rattle.std.proofs.Common.{◌≡◌, ℕ, List, ◌++◌, take, drop, length, ap, ◌∙◌, sym, arith, refl}
+use Rattle.std.proofs.Common.{◌≡◌, take, drop, length, ap, ◌∙◌, sym, arith, refl}
 use Rattle.std.proofs.lemmas.List.{append-nil, take_at}
 use Rattle.octet_format.proofs.Fields.{Has, has_more, length_written}
 use Rattle.hmac_sha256.specs.Hmac.{mac128_of}

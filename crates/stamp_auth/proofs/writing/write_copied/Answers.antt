@@ -1,5 +1,5 @@
-use Rattle.std.proofs.Common.{ℕ, List, [], ◌∷◌, ◌++◌, ◌≡◌, length, take, drop, replicate, ◌∙◌, append_assoc, arith, refl}
-use Rattle.std.specs.Int.{w16, w32, to_be_bytes}
+use Rattle.std.proofs.Common.{ℕ, List, ◌∷◌, ◌++◌, ◌≡◌, length, take, replicate, ◌∙◌, append_assoc, arith, refl}
+use Rattle.std.specs.Int.{w32, to_be_bytes}
 use Rattle.stamp_auth.specs.Reply.{copied_fields}
 use Rattle.octet_format.proofs.Fields.{Has, has_front, has_more}
 use Rattle.stamp_auth.proofs.writing.write_copied.Goals as goal

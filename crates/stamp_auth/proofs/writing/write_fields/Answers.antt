@@ -1,4 +1,4 @@
-use Rattle.std.proofs.Common.{◌≡◌, arith}
+use Rattle.std.proofs.Common.{arith}
 use Rattle.octet_format.proofs.Fields.{Has, has_put, length_written}
 use Rattle.stamp_auth.specs.Reply.{own_fields, copied_fields, auth_fields}
 use Rattle.stamp_auth.proofs.writing.write_fields.Goals as goal

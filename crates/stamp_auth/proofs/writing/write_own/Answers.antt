@@ -1,4 +1,4 @@
-use Rattle.std.proofs.Common.{ℕ, List, [], ◌∷◌, ◌++◌, ◌≡◌, length, take, drop, replicate, arith, refl}
+use Rattle.std.proofs.Common.{ℕ, List, [], ◌++◌, ◌≡◌, length, replicate, arith, refl}
 use Rattle.std.specs.Int.{w16, w32, to_be_bytes}
 use Rattle.stamp_auth.specs.Reply.{own_fields}
 use Rattle.octet_format.proofs.Fields.{Has, has_none, has_more}

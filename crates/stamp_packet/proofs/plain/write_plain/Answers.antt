@@ -1,4 +1,4 @@
-use Rattle.std.proofs.Common.{ℕ, List, [], ◌∷◌, ◌++◌, ◌≡◌, length, drop, arith, refl}
+use Rattle.std.proofs.Common.{ℕ, List, [], ◌∷◌, ◌++◌, ◌≡◌, length, arith, refl}
 use Rattle.std.specs.Int.{w16, w32, to_be_bytes}
 use Rattle.stamp_packet.specs.Plain.{plain_reply}
 use Rattle.octet_format.proofs.Fields.{Has, has_none, has_more}

@@ -1,4 +1,4 @@
-use Rattle.std.proofs.Common.{◌≡◌, ◌∙◌, true, false, sym, ap, subst, refl, arith, ℕ, List, length}
+use Rattle.std.proofs.Common.{◌≡◌, ◌∙◌, sym, ap, subst, arith}
 use Rattle.tlv_chain.specs.Tlv.{Tlv}
 use Rattle.tlv_actions.specs.Rows.{WritesTlv, tlv_of, has_valid_length, measured}
 use Rattle.tlv_actions.proofs.Cases.{reply_unknown, reply_bad, reply_good, acted_unknown, acted_bad, acted_good, valid_3, valid_5, value_3, value_5, value_other}

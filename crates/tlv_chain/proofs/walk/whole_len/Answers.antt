@@ -1,6 +1,6 @@
-use Rattle.std.proofs.Common.{◌≡◌, ◌≤◌, ◌+◌, ap, ◌∙◌, length, refl, arith}
+use Rattle.std.proofs.Common.{◌≡◌, ◌≤◌, ◌+◌, ap, ◌∙◌, length, arith}
 use Rattle.std.specs.Int.{w16, from_be_bytes}
-use Rattle.tlv_chain.specs.Split.{has_whole, named_length}
+use Rattle.tlv_chain.specs.Split.{named_length}
 use Rattle.tlv_chain.proofs.SplitFacts.{is_whole, no_whole}
 use Rattle.tlv_chain.proofs.walk.whole_len.Goals as goal
 

@@ -1,4 +1,4 @@
-use Rattle.std.proofs.Common.{◌≡◌, ◌∙◌, true, false, ap, sym, Option, Some, None}
+use Rattle.std.proofs.Common.{◌∙◌, true, false, ap, sym}
 use Rattle.refl_types.specs.declared.config.ConfigParts.{ConfigParts}
 use Rattle.tlv_integrity.proofs.Cases.{without_key, with_key, found_is, absent_is}
 use Rattle.tlv_integrity.proofs.integrity.check.Goals as goal

@@ -1,4 +1,4 @@
-use Rattle.std.proofs.Common.{◌≡◌, ℕ, ◌+◌, ◌++◌, ◌∙◌, Bool, true, false, eqb, nat_eq, List, length, take, drop, refl, sym, ap, arith}
+use Rattle.std.proofs.Common.{◌≡◌, ℕ, ◌+◌, ◌++◌, ◌∙◌, true, false, eqb, nat_eq, List, length, take, drop, refl, sym, ap}
 use Rattle.std.specs.Cmp.Lexicographic.{pointwise}
 use Rattle.hmac_sha256.specs.Hmac.{mac128_of}
 use Rattle.octet_format.specs.Octets.{field}

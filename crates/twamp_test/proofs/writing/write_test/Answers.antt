@@ -1,7 +1,7 @@
-use Rattle.std.proofs.Common.{◌≡◌, ◌+◌, ◌-◌, ◌≤◌, ◌++◌, ◌∙◌, ℕ, List, length, take, drop, replicate, min, max, ap, sym, refl, arith}
+use Rattle.std.proofs.Common.{◌≡◌, ◌+◌, ◌-◌, ◌++◌, ◌∙◌, ℕ, List, length, take, drop, replicate, ap, sym, refl, arith}
 use Rattle.std.proofs.lemmas.List.{length-take, length-drop}
 use Rattle.octet_format.proofs.Fields.{Has, has_more, has_put, length_written}
-use Rattle.twamp_test.specs.Reply.{padding_at, reflected_len, reply_len, test_fields, test_reply}
+use Rattle.twamp_test.specs.Reply.{padding_at, reflected_len, reply_len, test_fields}
 use Rattle.twamp_test.proofs.writing.write_test.Goals as goal
 
 -- what is cleared, by the definition's numbers
