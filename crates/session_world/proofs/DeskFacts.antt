@@ -1,17 +1,16 @@
 -- What the desk's own list of allowed steps says by itself.
-use Rattle.std.proofs.Common.{◌≡◌, ◌≢◌, ◌⊎◌, inl, inr, ⊎_elim, ℕ, zero, suc, ◌+◌, ◌-◌, ◌*◌, ◌<◌, ◌≤◌, ◌==◌, Bool, true, false, ◌||◌, ◌&&◌, not, if◌then◌else◌, List, [], ◌∷◌, sym, refl, ap, ◌∙◌, subst, arith, eq-eqb, ne_eqb}
+use Rattle.std.proofs.Common.{◌≡◌, ◌≢◌, ⊎_elim, ℕ, suc, ◌*◌, ◌<◌, ◌≤◌, ◌==◌, true, false, ◌&&◌, not, if◌then◌else◌, List, [], ◌∷◌, sym, refl, ap, ◌∙◌, subst, arith, eq-eqb, ne_eqb}
 use Rattle.std.proofs.lemmas.Bool.{eqb-true}
 use Rattle.slot_word.specs.declared.TheConstants.{ROW_LIMIT, GENERATION_LIMIT}
 use Rattle.config_rows.specs.Words.{config_of_words, AreConfigWords}
 use Rattle.session_world.specs.declared.steps.TableSize.{TableSize}
 use Rattle.session_world.specs.declared.steps.Step.{Step}
-use Rattle.session_world.specs.declared.steps.Step.TheVariants.{WriteRow, WriteKey, ReserveNew, Start, Split, Reconfigure, Close, Peek, Expire, Join, Scan, ReserveUsed}
+use Rattle.session_world.specs.declared.steps.Step.TheVariants.{WriteRow, WriteKey, ReserveNew, Start, Split, Reconfigure, Close, Expire, Join, ReserveUsed}
 use Rattle.session_world.specs.Sizes.{IsWithinLimits}
-use Rattle.session_world.specs.Keys.{Key, put, row_list, config_of, IsConfigRow, IsKey, is_auth, has_key, distance}
-use Rattle.session_world.specs.Desk.{is_open, generation_of, row_of, key_word_of, key_of_slot, is_reserved, rows_written, row_word_of, config_at, IsComplete, KeyedFor, is_split, HasPath, start_of_key}
+use Rattle.session_world.specs.Keys.{put, row_list, config_of, IsConfigRow}
+use Rattle.session_world.specs.Desk.{is_open, generation_of, row_of, is_reserved, rows_written, row_word_of, config_at, IsComplete, is_split}
 use Rattle.session_world.specs.Allowed.{DeskMay}
-use Rattle.session_world.proofs.Tests.{true_ne_false, bool, both, either_of, or_l, or_r, not_true, number_case, not_equal, is_false}
-use Rattle.session_world.proofs.KeyFacts.{IsSoundKey, key_of_same, is_key_same, excludes_turn, words_sound_key}
+use Rattle.session_world.proofs.BoolFacts.{true_ne_false, both, either_of, not_true, number_case, is_false}
 
 -- each step of the list was allowed
 abbrev pub DeskDid : TableSize → List Step → Type 0

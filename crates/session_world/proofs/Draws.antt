@@ -1,29 +1,28 @@
 -- A draw keeps what ties the state to a history.
-use Rattle.std.proofs.Common.{◌≡◌, ◌≢◌, inr, inl, ⊎_elim, ℕ, suc, ◌+◌, ◌%◌, ◌^◌, ◌<◌, ◌==◌, Bool, true, false, if◌then◌else◌, List, [], ◌∷◌, ◌++◌, length, get_or, get_or-set_other, get_or-set_same, set, sym, refl, ap, ◌∙◌, subst, arith, eq-eqb, ne_eqb, Option, Some, None}
+use Rattle.std.proofs.Common.{◌≡◌, ◌≢◌, inr, ⊎_elim, ℕ, suc, ◌+◌, ◌%◌, ◌^◌, ◌==◌, true, false, List, [], ◌∷◌, ◌++◌, get_or, get_or-set_other, get_or-set_same, sym, refl, ap, ◌∙◌, subst, arith, eq-eqb, ne_eqb, Option, Some}
 use Rattle.slot_word.specs.declared.TheConstants.{DRAW}
-use Rattle.slot_word.specs.Fields.{sequence_in, generation_in, row_in, is_open_word}
-use Rattle.slot_word.proofs.Laws.{Drawn, drawn}
+use Rattle.slot_word.specs.Fields.{sequence_in, row_in, is_open_word}
+use Rattle.slot_word.proofs.Laws.{drawn}
 use Rattle.refl_types.specs.Same.{same_key}
 use Rattle.session_key.specs.Matching.{excludes, matches}
 use Rattle.session_world.specs.declared.steps.TableSize.{TableSize}
 use Rattle.session_world.specs.declared.steps.Step.{Step}
 use Rattle.session_world.specs.declared.steps.Step.TheVariants.{Draw}
 use Rattle.session_world.specs.Keys.{Key, key_of, extra_of}
-use Rattle.session_world.specs.Words.{slot_at, count_of_words, words_after}
-use Rattle.session_world.specs.Desk.{is_open, row_of, key_of_slot, is_split}
+use Rattle.session_world.specs.Words.{slot_at, words_after}
+use Rattle.session_world.specs.Desk.{is_open, key_of_slot, is_split}
 use Rattle.session_world.specs.Worker.{LastLook, last_look}
 use Rattle.session_world.specs.Answers.{Answer, drew, late, draw_answer, draw_gives, step_gives}
 use Rattle.session_world.specs.Runs.{CoreState, state_after}
-use Rattle.session_world.specs.History.{Session, Event, drawn as drawn_session, map_after}
+use Rattle.session_world.specs.History.{Event, drawn as drawn_session, map_after}
 use Rattle.session_world.specs.Explains.{answers_in, desk_count}
-use Rattle.session_world.proofs.Tests.{true_ne_false, bool, some_none, number_case, if_yes, if_no}
+use Rattle.session_world.proofs.BoolFacts.{true_ne_false, bool, some_none, number_case, if_yes, if_no}
 use Rattle.session_world.proofs.KeyFacts.{same_key_eq, same_key_refl, excludes_self}
 use Rattle.session_world.proofs.LegalHistories.{was_drawn}
-use Rattle.session_world.proofs.DeskFacts.{open_inside}
 use Rattle.session_world.proofs.SlotFacts.{open_alone}
 use Rattle.session_world.proofs.Sound.{IsSound}
-use Rattle.session_world.proofs.Histories.{Any, map_ins, Who, NotOpens, Put, put_in, keeps_drawn}
-use Rattle.session_world.proofs.Tied.{Clear, who, from_low, sight, IsHolding, HasSight, LookFits, IsSessionOf, IsBoundSlot, Tied, look_ins, look_cons, full_key, matches_is}
+use Rattle.session_world.proofs.Histories.{Any, map_ins, Who, Put, put_in, keeps_drawn}
+use Rattle.session_world.proofs.Tied.{Clear, who, from_low, IsHolding, HasSight, LookFits, IsBoundSlot, Tied, look_ins, look_cons, full_key, matches_is}
 use Rattle.session_world.proofs.Spans.{own_after, order_after}
 use Rattle.session_world.proofs.Workers.{looks_after}
 

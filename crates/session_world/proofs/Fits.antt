@@ -1,21 +1,20 @@
 -- The words of slots and rows fit the desk's list, after every step.
-use Rattle.std.proofs.Common.{◌≡◌, ◌≢◌, ⊎_elim, ℕ, suc, ◌+◌, ◌-◌, ◌*◌, ◌%◌, ◌^◌, ◌<◌, ◌≤◌, ◌==◌, Bool, true, false, ◌||◌, ◌&&◌, not, if◌then◌else◌, List, ◌∷◌, length, get_or, get_or-set_other, get_or-set_same, length-set, set, sym, refl, ap, ◌∙◌, subst, arith, eq-eqb, ne_eqb}
+use Rattle.std.proofs.Common.{◌≡◌, ◌≢◌, ⊎_elim, ℕ, ◌+◌, ◌-◌, ◌*◌, ◌%◌, ◌^◌, ◌<◌, ◌≤◌, ◌==◌, Bool, true, false, not, List, ◌∷◌, length, get_or, get_or-set_other, get_or-set_same, length-set, set, sym, refl, ap, ◌∙◌, subst, arith, eq-eqb, ne_eqb}
 use Rattle.std.proofs.lemmas.Bool.{eqb-true}
 use Rattle.std.specs.Int.Bits.{bit_and, bit_or, bit_xor}
 use lib.Seq.{set-get_or}
-use prog.Atomic.{either}
 use Rattle.slot_word.specs.declared.TheConstants.{DRAW, CLOSED, ROW_LIMIT, GENERATION_LIMIT}
 use Rattle.slot_word.specs.Fields.{sequence_in, generation_in, row_in, is_open_word, word_of}
-use Rattle.slot_word.proofs.Laws.{HasFields, word_has, Drawn, drawn, Keeps, closing_keeps, closing_closes, opening_keeps, opening_opens, Exchanged, exchanged}
+use Rattle.slot_word.proofs.Laws.{word_has, drawn, closing_keeps, closing_closes, opening_keeps, opening_opens, exchanged}
 use Rattle.session_world.specs.declared.steps.TableSize.{TableSize}
 use Rattle.session_world.specs.declared.steps.Step.{Step}
-use Rattle.session_world.specs.declared.steps.Step.TheVariants.{WriteRow, WriteKey, ReserveNew, Start, Look, LoadKey, Draw, Split, LoadRow, Reconfigure, Close, Peek, Expire, Join, Announce, Retire, Scan, ReserveUsed}
+use Rattle.session_world.specs.declared.steps.Step.TheVariants.{WriteRow, WriteKey, ReserveNew, Start, Split, Reconfigure, Close, Peek, Expire, Join, Scan, ReserveUsed}
 use Rattle.session_world.specs.Sizes.{IsWithinLimits}
 use Rattle.session_world.specs.Words.{slot_at, key_at, row_at, announced_at, count_of_words, word_index, word_after, HasRead, words_after}
-use Rattle.session_world.specs.Desk.{is_open, generation_of, row_of, key_word_of, is_reserved, row_word_of, rows_written}
+use Rattle.session_world.specs.Desk.{is_open, generation_of, row_of, key_word_of, is_reserved, row_word_of}
 use Rattle.session_world.specs.Allowed.{DeskMay}
-use Rattle.session_world.proofs.Tests.{true_ne_false, bool, both, or_l, number_case}
-use Rattle.session_world.proofs.DeskFacts.{DeskDid, reserved_closed, open_used, open_inside, generation_low, row_complete, row_fits}
+use Rattle.session_world.proofs.BoolFacts.{true_ne_false, bool, both, or_l, number_case}
+use Rattle.session_world.proofs.DeskFacts.{DeskDid, reserved_closed, open_inside, row_fits}
 
 -- the word n is that of a slot that is open or not, with its generation and row. Where it is reserved its sequence number is 0
 pub record SlotWord (n : ℕ) (o : Bool) (g r : ℕ) (res : Bool) : Type 0 where

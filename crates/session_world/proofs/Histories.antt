@@ -1,10 +1,9 @@
 -- Events that leave the table as it is may be put into a legal history at an earlier point. Configurations are rows here.
-use Rattle.std.proofs.Common.{◌≡◌, ◌≢◌, ◌⊎◌, inl, inr, ℕ, suc, ◌≤◌, ◌<◌, ◌==◌, eqb, Bool, true, false, ◌||◌, if◌then◌else◌, List, [], ◌∷◌, sym, refl, ap, ◌∙◌, subst, arith, eq-eqb, ne_eqb, Option, Some, None}
+use Rattle.std.proofs.Common.{◌≡◌, ◌≢◌, ◌⊎◌, inl, inr, ℕ, suc, ◌≤◌, ◌==◌, eqb, Bool, true, false, ◌||◌, if◌then◌else◌, List, [], ◌∷◌, sym, refl, ap, ◌∙◌, subst, arith, eq-eqb, ne_eqb, Option, Some, None}
 use Rattle.session_world.specs.Keys.{Query, Key, Extra}
 use Rattle.session_world.specs.Answers.{Answer, opened, configured, counted, closed, expired, seen, drew, missed, late}
 use Rattle.session_world.specs.History.{Session, SessionMap, Event, entry_after, map_after, IsLegalAt, IsBy, IsLegal}
 use Rattle.session_world.specs.Explains.{with_wrapped_counts, answers_in, desk_count, desk_events_before, opens, last_of, opened_since, KeepsSession, NoOpenBetween}
-use Rattle.session_world.proofs.Tests.{true_ne_false}
 
 -- at first every row counts as one whose configuration has an HMAC key: which has one is said by the desk's list
 abbrev pub any_row : ℕ → Bool

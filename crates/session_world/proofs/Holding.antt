@@ -1,17 +1,16 @@
 -- What a worker's announcement promises of the slot that it holds, after every step.
-use Rattle.std.proofs.Common.{◌≡◌, ◌≢◌, ◌⊎◌, ⊎_elim, ℕ, zero, suc, ◌+◌, ◌*◌, ◌%◌, ◌^◌, ◌<◌, ◌≤◌, ◌==◌, Bool, true, false, ◌||◌, ◌&&◌, not, List, [], ◌∷◌, length, get_or, get_or-set_other, get_or-set_same, length-set, set, sym, refl, ap, ◌∙◌, subst, arith, eq-eqb, ne_eqb, Option, Some, None}
+use Rattle.std.proofs.Common.{◌≡◌, ◌≢◌, ⊎_elim, ℕ, suc, ◌+◌, ◌<◌, ◌≤◌, ◌==◌, true, false, ◌||◌, ◌&&◌, not, List, [], ◌∷◌, get_or, get_or-set_other, get_or-set_same, sym, refl, ap, ◌∙◌, subst, arith, eq-eqb, ne_eqb, Some}
 use Rattle.std.proofs.lemmas.Bool.{eqb-true}
 use lib.Seq.{set-get_or}
 use Rattle.slot_word.specs.Fields.{is_open_word}
 use Rattle.session_world.specs.declared.steps.TableSize.{TableSize}
 use Rattle.session_world.specs.declared.steps.Step.{Step}
 use Rattle.session_world.specs.declared.steps.Step.TheVariants.{WriteRow, WriteKey, ReserveNew, Start, Look, LoadKey, Draw, Split, LoadRow, Reconfigure, Close, Peek, Expire, Join, Announce, Retire, Scan, ReserveUsed}
-use Rattle.session_world.specs.Words.{slot_at, key_at, row_at, announced_at, count_of_words, word_index, word_after, HasRead, words_after}
-use Rattle.session_world.specs.Desk.{is_open, generation_of, key_word_of, is_reserved, is_split, ends_use, scanned_since, MayReuse}
+use Rattle.session_world.specs.Words.{slot_at, key_at, row_at, announced_at, word_index, word_after, HasRead, words_after}
+use Rattle.session_world.specs.Desk.{is_open, generation_of, key_word_of, is_reserved, scanned_since, MayReuse}
 use Rattle.session_world.specs.Worker.{announced, holds}
 use Rattle.session_world.specs.Allowed.{DeskMay, WorkerMay}
-use Rattle.session_world.specs.Runs.{CoreState}
-use Rattle.session_world.proofs.Tests.{true_ne_false, bool, both, either_of, no_or, no_and, number_case, some_none, some_same, is_false, not_equal}
+use Rattle.session_world.proofs.BoolFacts.{true_ne_false, bool, both, either_of, no_or, no_and, number_case, some_none, some_same, is_false}
 use Rattle.session_world.proofs.DeskFacts.{DeskDid, still_used, open_used, open_inside, reserved_closed}
 use Rattle.session_world.proofs.Fits.{WordsFit}
 
@@ -30,7 +29,7 @@ pub record Guard (z : TableSize) (ws : List ℕ) (ds : List Step) (w : ℕ) (xs 
   pub held : (i : ℕ) → holds xs i ≡ true → HeldSlot z ds w xs i
 
 -- the step writes neither the generation nor a key word of slot i
-pub Spares : Step → ℕ → Type 0
+unfoldable pub Spares : Step → ℕ → Type 0
 Spares (WriteKey slot index word) i = i ≢ slot
 Spares (ReserveNew slot row) i = i ≢ slot
 Spares (ReserveUsed slot generation row) i = i ≢ slot

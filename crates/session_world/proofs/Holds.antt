@@ -1,16 +1,16 @@
 -- Announcing, retiring and loading a row word keep what ties the state to a history.
-use Rattle.std.proofs.Common.{◌≡◌, ◌⊎◌, inl, inr, ⊎_elim, ℕ, suc, ◌+◌, ◌*◌, ◌<◌, ◌==◌, Bool, true, false, ◌&&◌, ◌||◌, not, List, [], ◌∷◌, get_or, get_or-set_other, sym, refl, ap, ◌∙◌, subst, arith, Option, Some}
+use Rattle.std.proofs.Common.{◌≡◌, inl, inr, ⊎_elim, ℕ, suc, ◌+◌, ◌==◌, true, false, ◌&&◌, not, List, get_or, get_or-set_other, sym, refl, ap, ◌∙◌, subst, arith, Some}
 use lib.Seq.{set-get_or}
 use Rattle.slot_word.specs.Fields.{generation_in, is_open_word}
 use Rattle.session_world.specs.declared.steps.TableSize.{TableSize}
 use Rattle.session_world.specs.declared.steps.Step.{Step}
 use Rattle.session_world.specs.declared.steps.Step.TheVariants.{LoadRow, Announce, Retire}
-use Rattle.session_world.specs.Words.{slot_at, row_at, announced_at, words_after}
+use Rattle.session_world.specs.Words.{slot_at, row_at, announced_at}
 use Rattle.session_world.specs.Desk.{is_split}
 use Rattle.session_world.specs.Worker.{LastLook, has_key_words, key_matches, is_passed, last_look}
 use Rattle.session_world.specs.Runs.{CoreState, state_after}
 use Rattle.session_world.specs.History.{Event}
-use Rattle.session_world.proofs.Tests.{true_ne_false, bool, or_r}
+use Rattle.session_world.proofs.BoolFacts.{true_ne_false, bool, or_r}
 use Rattle.session_world.proofs.Sound.{IsSound}
 use Rattle.session_world.proofs.Histories.{Who}
 use Rattle.session_world.proofs.Tied.{Gap, Ahead, may_go_on, who, IsHolding, LookFits, Tied}

@@ -1,19 +1,17 @@
 -- Keys and queries: which queries match which keys, and which keys exclude each other.
-use Rattle.std.proofs.Common.{◌≡◌, ◌⊎◌, inl, inr, ⊎_elim, ℕ, suc, ◌<◌, ◌==◌, Bool, true, false, ◌&&◌, ◌||◌, not, List, [], ◌∷◌, sym, refl, ap, ◌∙◌, subst, arith, Option, Some, None}
+use Rattle.std.proofs.Common.{◌≡◌, ℕ, ◌<◌, ◌==◌, true, ◌&&◌, [], ◌∷◌, sym, refl, ap, ◌∙◌, subst, arith, Option, Some, None}
 use Rattle.std.proofs.lemmas.Bool.{eqb-true}
-use Rattle.refl_types.specs.declared.types.Mode.{Mode}
-use Rattle.refl_types.specs.declared.types.Mode.TheVariants.{Plain, Auth, Twamp}
 use Rattle.refl_types.specs.declared.types.Endpoint.{Endpoint}
-use Rattle.refl_types.specs.Same.{same_endpoint, same_mode, same_key}
-use Rattle.refl_types.specs.Keys.{is_sound_in, is_sound}
-use Rattle.refl_types.proofs.SameFacts.{eqb-same, endpoint_same, same_endpoint-refl, mode_same, same_mode-refl, key_same, same_key-refl}
-use Rattle.session_key.specs.Matching.{is_told, agrees, matches, excludes}
+use Rattle.refl_types.specs.Same.{same_endpoint, same_key}
+use Rattle.refl_types.specs.Keys.{is_sound}
+use Rattle.refl_types.proofs.SameFacts.{endpoint_same, key_same, same_key-refl}
+use Rattle.session_key.specs.Matching.{matches, excludes}
 use Rattle.session_key.specs.Words.{key_of_words, extra_of_words, AreKeyWords}
 use Rattle.session_key.proofs.MatchLaws.{matched, matched_excludes, excludes-refl, excludes-sym}
 use Rattle.session_key.proofs.WordLaws.{key_words_fit}
 use Rattle.session_key.proofs.PlaceLaws.{place_range}
 use Rattle.session_world.specs.Keys.{Query, Key, Extra, key_list, key_of, extra_of, IsKey, same_number, same_query, start_of}
-use Rattle.session_world.proofs.Tests.{true_ne_false, bool, both, either_of, and_i, or_l, or_r, not_true, not_false}
+use Rattle.session_world.proofs.BoolFacts.{true_ne_false, both}
 
 same_number_eq : (o p : Option ℕ) → same_number o p ≡ true → o ≡ p
 same_number_eq None None h = refl

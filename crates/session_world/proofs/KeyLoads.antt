@@ -1,22 +1,22 @@
 -- A load of a key word keeps what ties the state to a history.
-use Rattle.std.proofs.Common.{◌≡◌, ◌≢◌, ◌⊎◌, inl, inr, ⊎_elim, ℕ, zero, suc, ◌<◌, ◌≤◌, ◌==◌, Bool, true, false, ◌&&◌, ◌||◌, not, if◌then◌else◌, List, [], ◌∷◌, ◌++◌, get_or, sym, refl, ap, ◌∙◌, subst, arith, eq-eqb, ne_eqb, Option, Some, None}
+use Rattle.std.proofs.Common.{◌≡◌, ◌≢◌, ◌⊎◌, inl, inr, ⊎_elim, ℕ, suc, ◌<◌, ◌==◌, Bool, true, false, ◌&&◌, ◌||◌, not, if◌then◌else◌, List, [], ◌∷◌, get_or, sym, refl, ap, ◌∙◌, subst, arith, eq-eqb, ne_eqb, Option, Some, None}
 use Rattle.std.proofs.lemmas.Bool.{eqb-true}
 use lib.Seq.{set-get_or}
-use Rattle.slot_word.specs.Fields.{generation_in, row_in, is_open_word}
+use Rattle.slot_word.specs.Fields.{row_in, is_open_word}
 use Rattle.session_key.specs.Matching.{matches}
 use Rattle.session_world.specs.declared.steps.TableSize.{TableSize}
 use Rattle.session_world.specs.declared.steps.Step.{Step}
 use Rattle.session_world.specs.declared.steps.Step.TheVariants.{LoadKey}
 use Rattle.session_world.specs.Sizes.{IsWithinLimits}
-use Rattle.session_world.specs.Keys.{Query, Key, Extra, put, key_of, extra_of}
+use Rattle.session_world.specs.Keys.{Key, Extra, put, key_of, extra_of}
 use Rattle.session_world.specs.Words.{slot_at, key_at, words_after}
 use Rattle.session_world.specs.Desk.{is_open, key_word_of, key_of_slot, extra_of_slot, is_split}
 use Rattle.session_world.specs.Worker.{LastLook, has_key_words, key_matches, is_passed, takes_key, with_key_word, after_key, last_look}
 use Rattle.session_world.specs.Answers.{Answer, seen, missed, words_give, completes_key, key_gives, step_gives}
 use Rattle.session_world.specs.Runs.{CoreState, state_after}
-use Rattle.session_world.specs.History.{Session, Event, map_after, NoMatch, IsLegalAt}
+use Rattle.session_world.specs.History.{Event, NoMatch, IsLegalAt}
 use Rattle.session_world.specs.Explains.{with_wrapped_counts, answers_in}
-use Rattle.session_world.proofs.Tests.{true_ne_false, bool, both, either_of, and_i, or_l, or_r, not_true, not_false, not_zero, not_equal, number_case, if_yes, if_no, some_none, some_same, put_same, put_other, put_true}
+use Rattle.session_world.proofs.BoolFacts.{true_ne_false, bool, both, either_of, not_true, not_zero, not_equal, number_case, if_yes, if_no, some_none, some_same, put_same, put_other, put_true}
 use Rattle.session_world.proofs.KeyFacts.{start_low}
 use Rattle.session_world.proofs.Walks.{distance_low, distance_same}
 use Rattle.session_world.proofs.Sound.{IsSound}
@@ -79,7 +79,7 @@ completes s i k n h =
     let b = both (takes_key s i && not (s.number == 0)) (not (has_key_words s)) a.0 in
     record { walking = not_zero s.number (both (takes_key s i) (not (s.number == 0)) b.0).1; before = not_true (has_key_words s) b.1; full = a.1 }
 
-completes_i : (s : LastLook) (i k n : ℕ) → takes_key s i ≡ true → ¬ (s.number ≡ 0) → has_key_words s ≡ false → has_key_words (with_key_word s k n) ≡ true → completes_key s i k n ≡ true
+pub completes_i : (s : LastLook) (i k n : ℕ) → takes_key s i ≡ true → ¬ (s.number ≡ 0) → has_key_words s ≡ false → has_key_words (with_key_word s k n) ≡ true → completes_key s i k n ≡ true
 unfolding completes_key
 completes_i s i k n a b d e = rw (a, ne_eqb s.number 0 b, d, e) refl
 

@@ -1,4 +1,4 @@
-pub mod Tests
+pub mod BoolFacts
 pub mod KeyFacts
 pub mod Walks
 pub mod LegalHistories
@@ -16,3 +16,11 @@ pub mod Looks
 pub mod KeyLoads
 pub mod Holds
 pub mod Draws
+pub mod DeskSteps
+pub mod Sessions
+pub mod Seatings
+pub mod Schedules
+pub mod Configs
+pub mod RefusedSteps
+pub mod WholeRuns
+pub mod FirstWords

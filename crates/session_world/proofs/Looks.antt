@@ -1,5 +1,5 @@
 -- A look keeps what ties the state to a history.
-use Rattle.std.proofs.Common.{◌≡◌, ◌≢◌, ◌⊎◌, inl, inr, ⊎_elim, ℕ, zero, suc, ◌<◌, ◌≤◌, ◌==◌, Bool, true, false, ◌&&◌, ◌||◌, not, if◌then◌else◌, List, [], ◌∷◌, get_or, sym, refl, ap, ◌∙◌, subst, arith, eq-eqb, ne_eqb, Option, Some, None}
+use Rattle.std.proofs.Common.{◌≡◌, ◌≢◌, ◌⊎◌, inl, inr, ⊎_elim, ℕ, zero, suc, ◌<◌, ◌≤◌, ◌==◌, Bool, true, false, ◌&&◌, ◌||◌, not, List, get_or, sym, refl, ap, ◌∙◌, subst, arith, ne_eqb, Option, Some, None}
 use Rattle.std.proofs.lemmas.Bool.{eqb-true}
 use lib.Seq.{set-get_or}
 use Rattle.slot_word.specs.Fields.{generation_in, row_in, is_open_word}
@@ -8,21 +8,21 @@ use Rattle.session_world.specs.declared.steps.TableSize.{TableSize}
 use Rattle.session_world.specs.declared.steps.Step.{Step}
 use Rattle.session_world.specs.declared.steps.Step.TheVariants.{Look}
 use Rattle.session_world.specs.Sizes.{IsWithinLimits}
-use Rattle.session_world.specs.Keys.{Query, Key, same_query, start_of, next_slot, distance}
+use Rattle.session_world.specs.Keys.{Query, same_query, next_slot, distance}
 use Rattle.session_world.specs.Words.{slot_at, words_after}
-use Rattle.session_world.specs.Desk.{is_open, generation_of, key_of_slot, is_split}
+use Rattle.session_world.specs.Desk.{is_open, key_of_slot, is_split}
 use Rattle.session_world.specs.Worker.{LastLook, has_key_words, key_matches, is_passed, continues_walk, first_number, number_of, after_look, last_look}
-use Rattle.session_world.specs.Answers.{Answer, missed, is_miss, look_gives}
+use Rattle.session_world.specs.Answers.{missed, is_miss}
 use Rattle.session_world.specs.Runs.{CoreState, state_after}
-use Rattle.session_world.specs.History.{Session, Event, map_after, NoMatch}
-use Rattle.session_world.proofs.Tests.{true_ne_false, bool, both, either_of, and_i, not_true, not_zero, not_equal, number_case, some_same}
+use Rattle.session_world.specs.History.{Event, NoMatch}
+use Rattle.session_world.proofs.BoolFacts.{true_ne_false, bool, both, either_of, and_i, not_true, not_zero, not_equal, number_case, some_same}
 use Rattle.session_world.proofs.KeyFacts.{same_query_eq, matches_start, start_low}
 use Rattle.session_world.proofs.Walks.{distance_low, distance_same, distance_start, distance_next}
 use Rattle.session_world.proofs.DeskFacts.{open_inside}
 use Rattle.session_world.proofs.SlotFacts.{use_path}
 use Rattle.session_world.proofs.Sound.{IsSound}
-use Rattle.session_world.proofs.Histories.{any_row, map_ins, Who, Point, Any, NotOpens, now, Put, put_in}
-use Rattle.session_world.proofs.Tied.{SeenAt, Gap, start_slot, far, Ahead, may_go_on, who, from_low, IsHolding, LookFits, Tied, look_ins}
+use Rattle.session_world.proofs.Histories.{map_ins, Who, Point, Any, NotOpens, now, Put, put_in}
+use Rattle.session_world.proofs.Tied.{SeenAt, Gap, start_slot, far, Ahead, may_go_on, who, from_low, LookFits, Tied, look_ins}
 use Rattle.session_world.proofs.Workers.{quiet_step}
 
 -- a slot below n that passes the test, or none

@@ -1,25 +1,24 @@
 -- The words that workers and the desk read are those that the desk wrote, in every schedule that runs.
-use Rattle.std.proofs.Common.{◌≡◌, ◌≢◌, ◌⊎◌, inl, inr, ⊎_elim, ℕ, zero, suc, ◌+◌, ◌*◌, ◌<◌, ◌≤◌, ◌==◌, Bool, true, false, ◌||◌, ◌&&◌, not, List, [], ◌∷◌, get_or, sym, refl, ap, ◌∙◌, subst, arith, eq-eqb, ne_eqb, Option, Some, None}
+use Rattle.std.proofs.Common.{◌≡◌, ◌≢◌, inr, ⊎_elim, ℕ, zero, suc, ◌<◌, ◌≤◌, ◌==◌, true, false, ◌||◌, ◌&&◌, List, [], ◌∷◌, get_or, sym, refl, ap, ◌∙◌, subst, arith, eq-eqb, ne_eqb, Some}
 use Rattle.std.proofs.lemmas.Bool.{eqb-true}
 use Rattle.slot_word.specs.Fields.{generation_in, row_in, is_open_word}
-use Rattle.config_rows.specs.Words.{AreConfigWords}
 use Rattle.session_world.specs.declared.steps.TableSize.{TableSize}
 use Rattle.session_world.specs.declared.steps.Step.{Step}
-use Rattle.session_world.specs.declared.steps.Step.TheVariants.{WriteRow, WriteKey, ReserveNew, Start, Look, LoadKey, Draw, Split, LoadRow, Reconfigure, Close, Peek, Expire, Join, Announce, Retire, Scan, ReserveUsed}
+use Rattle.session_world.specs.declared.steps.Step.TheVariants.{ReserveNew, Look, LoadKey, Draw, LoadRow, Reconfigure, Peek, Expire, Announce, Retire, ReserveUsed}
 use Rattle.session_world.specs.Sizes.{IsWithinLimits}
-use Rattle.session_world.specs.Keys.{Query, IsKey, IsConfigRow, is_auth, has_key}
+use Rattle.session_world.specs.Keys.{Query, IsConfigRow, is_auth, has_key}
 use Rattle.session_world.specs.Words.{slot_at, word_index, HasRead}
 use Rattle.session_world.specs.Desk.{is_open, generation_of, row_of, key_word_of, row_word_of, IsComplete, KeyedFor, is_split}
 use Rattle.session_world.specs.Worker.{announced, holds, names_row}
 use Rattle.session_world.specs.Allowed.{DeskMay, WorkerMay, IsAllowed}
 use Rattle.session_world.specs.Runs.{CoreState, state_after, own_steps, ScheduledStep, run, Runs}
 use Rattle.session_world.specs.Loads.{KeyLoadsAre, RowLoadsAre, names_open, names_open_here, HeldKey, WorkerWords, IsWordOf, DeskWords, LoadedWords}
-use Rattle.session_world.proofs.Tests.{true_ne_false, bool, both, either_of, and_i, or_l, or_r, no_or, number_case, some_same, is_false}
+use Rattle.session_world.proofs.BoolFacts.{true_ne_false, bool, both, either_of, and_i, or_l, or_r, no_or, number_case, some_same, is_false}
 use Rattle.session_world.proofs.KeyFacts.{key_of_same, is_key_same}
 use Rattle.session_world.proofs.DeskFacts.{DeskDid, open_used, open_inside, row_complete, complete_low, still_complete, row_kept, config_kept, is_config_same, complete_config}
 use Rattle.session_world.proofs.SlotFacts.{use_sound, open_keyed}
-use Rattle.session_world.proofs.Fits.{SlotFits, WordsFit}
-use Rattle.session_world.proofs.Holding.{HeldSlot, Guard, Spared, spared, spares}
+use Rattle.session_world.proofs.Fits.{WordsFit}
+use Rattle.session_world.proofs.Holding.{Guard, spared, spares}
 use Rattle.session_world.proofs.Sound.{WorkerDid, IsSound, part_after, put_part, step_sound, run_sound}
 
 -- ---- what a worker's list says by itself

@@ -1,14 +1,14 @@
 -- What the desk's own list says of slots that are reserved or open.
-use Rattle.std.proofs.Common.{◌≡◌, ◌≢◌, ◌⊎◌, inl, inr, ⊎_elim, ℕ, suc, ◌<◌, ◌==◌, Bool, true, false, ◌||◌, ◌&&◌, not, if◌then◌else◌, List, [], ◌∷◌, sym, refl, ap, ◌∙◌, subst, arith, eq-eqb, ne_eqb}
+use Rattle.std.proofs.Common.{◌≡◌, ◌≢◌, ◌⊎◌, inl, inr, ⊎_elim, ℕ, ◌==◌, true, false, ◌&&◌, not, List, [], ◌∷◌, sym, refl, ap, ◌∙◌, subst, eq-eqb, ne_eqb}
 use Rattle.std.proofs.lemmas.Bool.{eqb-true}
 use Rattle.session_key.specs.Matching.{excludes}
 use Rattle.session_world.specs.declared.steps.TableSize.{TableSize}
 use Rattle.session_world.specs.declared.steps.Step.{Step}
-use Rattle.session_world.specs.declared.steps.Step.TheVariants.{WriteRow, WriteKey, ReserveNew, Start, Split, Reconfigure, Close, Peek, Expire, Join, Scan, ReserveUsed}
-use Rattle.session_world.specs.Keys.{Key, ConfigParts, IsKey, is_auth, has_key, distance}
-use Rattle.session_world.specs.Desk.{is_open, generation_of, row_of, key_word_of, key_of_slot, is_reserved, config_at, IsComplete, KeyedFor, MayReuse, HasPath, start_of_key}
+use Rattle.session_world.specs.declared.steps.Step.TheVariants.{WriteKey, ReserveNew, Start, Reconfigure, Close, Expire, ReserveUsed}
+use Rattle.session_world.specs.Keys.{Key, IsKey, is_auth, has_key}
+use Rattle.session_world.specs.Desk.{is_open, generation_of, row_of, key_word_of, key_of_slot, is_reserved, IsComplete, KeyedFor, MayReuse, HasPath, start_of_key}
 use Rattle.session_world.specs.Allowed.{MayReserve, DeskMay}
-use Rattle.session_world.proofs.Tests.{true_ne_false, both, either_of, or_r, not_equal, number_case}
+use Rattle.session_world.proofs.BoolFacts.{true_ne_false, both, either_of, not_equal, number_case}
 use Rattle.session_world.proofs.KeyFacts.{key_of_same, is_key_same, excludes_turn}
 use Rattle.session_world.proofs.DeskFacts.{DeskDid, still_used, open_used, reserved_used, row_complete, config_kept}
 

@@ -1,23 +1,22 @@
 -- What is so of the state after every schedule that runs, and that a held slot stays.
-use Rattle.std.proofs.Common.{◌≡◌, ◌≢◌, ⊎_elim, ℕ, zero, suc, ◌+◌, ◌*◌, ◌<◌, ◌≤◌, ◌==◌, Bool, true, false, ◌||◌, ◌&&◌, not, List, [], ◌∷◌, ◌++◌, length, get_or, replicate, sym, refl, ap, ◌∙◌, subst, arith, eq-eqb, ne_eqb, length-append}
+use Rattle.std.proofs.Common.{◌≡◌, ◌≢◌, ℕ, zero, suc, ◌+◌, ◌*◌, ◌<◌, ◌≤◌, ◌==◌, true, not, List, [], ◌∷◌, ◌++◌, length, get_or, replicate, sym, refl, ap, ◌∙◌, subst, arith, ne_eqb, length-append}
 use Rattle.std.proofs.lemmas.List.{length-replicate}
-use Rattle.std.proofs.lemmas.Bool.{eqb-true}
-use Rattle.slot_word.specs.Fields.{sequence_in, generation_in, row_in, is_open_word}
+use Rattle.slot_word.specs.Fields.{generation_in, row_in, is_open_word}
 use Rattle.session_world.specs.declared.steps.TableSize.{TableSize}
 use Rattle.session_world.specs.declared.steps.Step.{Step}
-use Rattle.session_world.specs.declared.steps.Step.TheVariants.{WriteRow, WriteKey, ReserveNew, Start, Look, LoadKey, Draw, Split, LoadRow, Reconfigure, Close, Peek, Expire, Join, Announce, Retire, Scan, ReserveUsed}
+use Rattle.session_world.specs.declared.steps.Step.TheVariants.{Look, LoadKey, Draw, Split, LoadRow, Join, Announce, Retire}
 use Rattle.session_world.specs.Sizes.{IsWithinLimits}
 use Rattle.session_world.specs.Keys.{put}
-use Rattle.session_world.specs.Words.{slot_at, key_at, row_at, announced_at, count_of_words, fresh_slots, first_words, word_index, word_after, HasRead, words_after}
-use Rattle.session_world.specs.Desk.{generation_of, key_word_of, row_word_of, is_reserved, is_split}
+use Rattle.session_world.specs.Words.{slot_at, key_at, row_at, fresh_slots, first_words, word_index, HasRead, words_after}
+use Rattle.session_world.specs.Desk.{generation_of, key_word_of, is_split}
 use Rattle.session_world.specs.Worker.{holds}
 use Rattle.session_world.specs.Allowed.{DeskMay, WorkerMay, IsAllowed}
 use Rattle.session_world.specs.Runs.{CoreState, parts_after, state_after, first_state, own_steps, ScheduledStep, run, Runs}
-use Rattle.session_world.specs.Held.{word_at, Held}
-use Rattle.session_world.proofs.Tests.{true_ne_false, both, either_of, number_case, put_same, put_other}
+use Rattle.session_world.specs.Held.{Held}
+use Rattle.session_world.proofs.BoolFacts.{true_ne_false, both, number_case, put_same, put_other}
 use Rattle.session_world.proofs.DeskFacts.{DeskDid, split_inside}
 use Rattle.session_world.proofs.Fits.{SlotFits, WordsFit, desk_fits, load_fits, announce_fits, draw_fits}
-use Rattle.session_world.proofs.Holding.{Guard, Spares, spares, Spared, spared, desk_guard, new_guard, own_guard, other_guard}
+use Rattle.session_world.proofs.Holding.{Guard, spares, spared, desk_guard, new_guard, own_guard, other_guard}
 
 -- each step of the worker's list was allowed
 abbrev pub WorkerDid : TableSize → List Step → Type 0

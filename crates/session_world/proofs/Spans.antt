@@ -1,9 +1,7 @@
 -- After each step, an actor's events are its answers, and stand within the parts of its list.
-use Rattle.std.proofs.Common.{◌≡◌, ◌≢◌, ◌⊎◌, inl, inr, ⊎_elim, ℕ, zero, suc, ◌<◌, ◌≤◌, ◌==◌, Bool, true, false, ◌&&◌, ◌||◌, not, if◌then◌else◌, List, [], ◌∷◌, ◌++◌, length, take, drop, get_or, sym, refl, ap, ◌∙◌, subst, arith, eq-eqb, ne_eqb, append_assoc, Option, Some, None}
-use lib.Seq.{set-get_or}
+use Rattle.std.proofs.Common.{◌≡◌, ◌≢◌, ◌⊎◌, ⊎_elim, ℕ, zero, suc, ◌≤◌, ◌==◌, Bool, true, false, ◌&&◌, ◌||◌, not, if◌then◌else◌, List, [], ◌∷◌, ◌++◌, length, take, sym, refl, ap, ◌∙◌, subst, arith, eq-eqb, ne_eqb, append_assoc, Some, None}
 use Rattle.session_world.specs.declared.steps.TableSize.{TableSize}
 use Rattle.session_world.specs.declared.steps.Step.{Step}
-use Rattle.session_world.specs.declared.steps.Part.{Part}
 use Rattle.session_world.specs.declared.steps.Step.TheVariants.{Split, Join}
 use Rattle.session_world.specs.Keys.{put}
 use Rattle.session_world.specs.Desk.{is_split}
@@ -11,8 +9,8 @@ use Rattle.session_world.specs.Worker.{last_look}
 use Rattle.session_world.specs.Answers.{Answer, desk_gives, desk_answers, answers_at_split, step_gives, worker_answers}
 use Rattle.session_world.specs.Runs.{CoreState, ended_part, state_after}
 use Rattle.session_world.specs.History.{Event}
-use Rattle.session_world.specs.Explains.{Span, ended_span, ended_spans, living_span, spans_of, answers_of_spans, answers, answers_in, desk_count, desk_events_before, IsAtMost, AllWithin, IsInSpans}
-use Rattle.session_world.proofs.Tests.{both, or_l, number_case, if_yes, if_no, put_same, put_other}
+use Rattle.session_world.specs.Explains.{Span, ended_span, ended_spans, living_span, spans_of, answers_of_spans, answers, answers_in, desk_count, desk_events_before, AllWithin, IsInSpans}
+use Rattle.session_world.proofs.BoolFacts.{or_l, number_case, if_yes, if_no, put_same, put_other}
 use Rattle.session_world.proofs.Tied.{who, Tied, count_of}
 
 -- ---- a step of the desk that splits and joins nobody

@@ -1,19 +1,19 @@
 -- What ties the state of a schedule to its history. Configurations are rows here.
-use Rattle.std.proofs.Common.{◌≡◌, ◌≢◌, ◌⊎◌, inl, inr, ⊎_elim, ℕ, suc, ◌%◌, ◌^◌, ◌<◌, ◌≤◌, ◌==◌, zero, Bool, true, false, ◌&&◌, ◌||◌, not, if◌then◌else◌, List, [], ◌∷◌, ◌++◌, length, get_or, sym, refl, ap, ◌∙◌, subst, arith, Option, Some, None}
+use Rattle.std.proofs.Common.{◌≡◌, ◌≢◌, ◌⊎◌, inl, inr, ⊎_elim, ℕ, suc, ◌%◌, ◌^◌, ◌<◌, ◌≤◌, ◌==◌, zero, Bool, true, false, ◌&&◌, ◌||◌, not, if◌then◌else◌, List, [], ◌∷◌, length, get_or, sym, refl, ap, ◌∙◌, arith, Some}
 use Rattle.slot_word.specs.Fields.{sequence_in, generation_in, row_in, is_open_word}
 use Rattle.session_key.specs.Matching.{matches}
 use Rattle.session_world.specs.declared.steps.TableSize.{TableSize}
 use Rattle.session_world.specs.declared.steps.Step.{Step}
 use Rattle.session_world.specs.declared.steps.Step.TheVariants.{Start, Split, Reconfigure, Close, Peek, Expire}
-use Rattle.session_world.specs.Keys.{Query, Key, Extra, key_of, extra_of, start_of, distance}
+use Rattle.session_world.specs.Keys.{Query, Key, key_of, extra_of, start_of, distance}
 use Rattle.session_world.specs.Words.{slot_at}
 use Rattle.session_world.specs.Desk.{is_open, row_of, key_word_of, key_of_slot, extra_of_slot, is_split}
 use Rattle.session_world.specs.Worker.{LastLook, has_key_words, key_matches, is_passed, last_look}
-use Rattle.session_world.specs.Answers.{Answer, seen, desk_gives, desk_answers, answers_at_split}
+use Rattle.session_world.specs.Answers.{Answer, seen, desk_answers, answers_at_split}
 use Rattle.session_world.specs.Runs.{CoreState}
 use Rattle.session_world.specs.History.{Session, Event, map_after, Has, NoMatch, IsLegal}
 use Rattle.session_world.specs.Explains.{spans_of, answers, with_wrapped_counts, answers_in, desk_count, desk_events_before, IsInSpans, opens, NoOpenBetween}
-use Rattle.session_world.proofs.Tests.{both}
+use Rattle.session_world.proofs.BoolFacts.{both}
 use Rattle.session_world.proofs.KeyFacts.{key_of_same, extra_of_same}
 use Rattle.session_world.proofs.Histories.{any_row, RowMap, IsQuiet, quiet_not_opens, Ins, Who, Point, Any, NotOpens, point_map, Pointwise, point_ins, Since, since_ins, After, after_map, after_ins}
 

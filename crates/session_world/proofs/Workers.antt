@@ -1,22 +1,22 @@
 -- What a worker's list says of its last look, and what its steps leave of what ties the state to a history.
-use Rattle.std.proofs.Common.{◌≡◌, ◌≢◌, ◌⊎◌, inl, inr, ⊎_elim, ℕ, zero, suc, ◌<◌, ◌≤◌, ◌==◌, Bool, true, false, ◌&&◌, ◌||◌, not, if◌then◌else◌, List, [], ◌∷◌, ◌++◌, get_or, sym, refl, ap, ◌∙◌, subst, arith, eq-eqb, ne_eqb, Option, Some, None}
+use Rattle.std.proofs.Common.{◌≡◌, ◌≢◌, ℕ, suc, ◌<◌, ◌==◌, Bool, true, false, ◌&&◌, if◌then◌else◌, List, [], ◌∷◌, ◌++◌, get_or, sym, refl, ap, ◌∙◌, subst, arith, eq-eqb, Option, Some, None}
 use Rattle.slot_word.specs.Fields.{is_open_word}
 use Rattle.session_world.specs.declared.steps.TableSize.{TableSize}
 use Rattle.session_world.specs.declared.steps.Step.{Step}
-use Rattle.session_world.specs.declared.steps.Step.TheVariants.{Look, LoadKey, Draw, LoadRow, Announce, Retire}
+use Rattle.session_world.specs.declared.steps.Step.TheVariants.{Look, LoadKey, Draw, Announce, Retire}
 use Rattle.session_world.specs.Keys.{Key}
 use Rattle.session_world.specs.Words.{slot_at, words_after}
-use Rattle.session_world.specs.Desk.{is_open, is_split}
-use Rattle.session_world.specs.Worker.{LastLook, holds, takes_key, with_key_word, after_look, after_key, after_hold, last_look}
-use Rattle.session_world.specs.Answers.{Answer, step_gives}
+use Rattle.session_world.specs.Desk.{is_split}
+use Rattle.session_world.specs.Worker.{LastLook, holds, takes_key, with_key_word, after_key, after_hold, last_look}
+use Rattle.session_world.specs.Answers.{step_gives}
 use Rattle.session_world.specs.Runs.{CoreState, state_after}
-use Rattle.session_world.specs.History.{Session, Event, map_after, IsLegal}
+use Rattle.session_world.specs.History.{Event, map_after, IsLegal}
 use Rattle.session_world.specs.Explains.{answers_in, desk_events_before, NoOpenBetween}
-use Rattle.session_world.proofs.Tests.{true_ne_false, bool, both, and_i, or_l, or_r, some_none, some_same, number_case}
+use Rattle.session_world.proofs.BoolFacts.{true_ne_false, and_i, or_l, some_none, some_same}
 use Rattle.session_world.proofs.DeskFacts.{open_inside}
 use Rattle.session_world.proofs.Sound.{IsSound, put_part}
 use Rattle.session_world.proofs.Histories.{any_row}
-use Rattle.session_world.proofs.Tied.{who, IsHolding, LookFits, IsBoundSlot, IsSlotOf, LooksFit, Tied}
+use Rattle.session_world.proofs.Tied.{who, IsHolding, LookFits, IsBoundSlot, LooksFit, Tied}
 use Rattle.session_world.proofs.Spans.{own_after, Placed, order_after}
 
 -- ---- the last look

@@ -10,3 +10,5 @@ pub mod History
 pub mod Explains
 pub mod Held
 pub mod Loads
+pub mod Refusals
+pub mod WholeRun
