@@ -54,7 +54,7 @@ others_worker z c w st u free fits alive = let f = fits alive in (
   (λ is. let d = f.0 is in record {
     steps = d.steps;
     joined = d.joined;
-    pending = λ some_out. let o = d.pending some_out in (o.0, put_else c.living_part (suc w) (st ∷ c.living_part (suc w)) u.pending_worker (λ e. free (alive, inr (sym e, omega arith))) ∙ o.1);
+    pending = λ some_pending. let o = d.pending some_pending in (o.0, put_else c.living_part (suc w) (st ∷ c.living_part (suc w)) u.pending_worker (λ e. free (alive, inr (sym e, omega arith))) ∙ o.1);
   }),
   (λ pos. let d = f.1 pos in record {
     split = d.split;
@@ -308,17 +308,17 @@ module _ (z : TableSize) (s : Rows) (k : HasOneSchedule z s) (id : ℕ) (v : Vie
   d = (k.seats id v at alive).0 desk
 
   -- the desk hands the part that it holds to a new seat
-  split_view : (some_out : 0 < v.pending_worker) (jd : ℕ) (u : View) → get_elem? (set s.views id (without_pending v) ++ split_off_view v ∷ []) jd ≡ some u
+  split_view : (some_pending : 0 < v.pending_worker) (jd : ℕ) (u : View) → get_elem? (set s.views id (without_pending v) ++ split_off_view v ∷ []) jd ≡ some u
       → ((jd ≡ id) × (without_pending v ≡ u)) ⊎ (((jd ≢ id) × (get_elem? s.views jd ≡ some u)) ⊎ ((jd ≡ length (set s.views id (without_pending v))) × (split_off_view v ≡ u)))
-  split_view some_out jd u there = ⊎_elim
+  split_view some_pending jd u there = ⊎_elim
       (λ (h : get_elem? (set s.views id (without_pending v)) jd ≡ some u). ⊎_elim (λ (t : (jd ≡ id) × (without_pending v ≡ u)). inl t) (λ (t : (jd ≢ id) × (get_elem? s.views jd ≡ some u)). inr (inl t)) (at_set s.views id jd (without_pending v) u h))
       (λ (h : (jd ≡ length (set s.views id (without_pending v))) × (split_off_view v ≡ u)). inr (inr h))
       (at_end (set s.views id (without_pending v)) (split_off_view v) u jd there)
 
   -- who claims n after the split, and with whose claim before
-  split_claim : (some_out : 0 < v.pending_worker) (jd n : ℕ) (u : View) → get_elem? (set s.views id (without_pending v) ++ split_off_view v ∷ []) jd ≡ some u → StandsFor u n
+  split_claim : (some_pending : 0 < v.pending_worker) (jd n : ℕ) (u : View) → get_elem? (set s.views id (without_pending v) ++ split_off_view v ∷ []) jd ≡ some u → StandsFor u n
       → ((jd ≡ id) × (n ≡ 0)) ⊎ (((jd ≢ id) × (get_elem? s.views jd ≡ some u)) ⊎ ((jd ≡ length (set s.views id (without_pending v))) × (n ≡ v.pending_worker)))
-  split_claim some_out jd n u there mine = ⊎_elim
+  split_claim some_pending jd n u there mine = ⊎_elim
       (λ (t : (jd ≡ id) × (without_pending v ≡ u)). let h : StandsFor (without_pending v) n = subst (λ (x : View). StandsFor x n) (sym t.1) mine in
       inl (t.0, ⊎_elim (λ (e : n ≡ v.number). e ∙ desk) (λ (e : (n ≡ 0) × (0 < n)). e.0) h.1))
       (λ (r : ((jd ≢ id) × (get_elem? s.views jd ≡ some u)) ⊎ ((jd ≡ length (set s.views id (without_pending v))) × (split_off_view v ≡ u))). inr (⊎_elim
@@ -326,10 +326,10 @@ module _ (z : TableSize) (s : Rows) (k : HasOneSchedule z s) (id : ℕ) (v : Vie
       (λ (t : (jd ≡ length (set s.views id (without_pending v))) × (split_off_view v ≡ u)). let h : StandsFor (split_off_view v) n = subst (λ (x : View). StandsFor x n) (sym t.1) mine in
       inr (t.0, ⊎_elim (λ (e : n ≡ v.pending_worker). e) (λ (e : (n ≡ 0) × (0 < n)). absurd (omega (arith, e.0, e.1))) h.1))
       r))
-      (split_view some_out jd u there)
+      (split_view some_pending jd u there)
 
-  split_fits : (some_out : 0 < v.pending_worker) (jd : ℕ) (u : View) → get_elem? (set s.views id (without_pending v) ++ split_off_view v ∷ []) jd ≡ some u → IsSeatAt now u
-  split_fits some_out jd u there = ⊎_elim
+  split_fits : (some_pending : 0 < v.pending_worker) (jd : ℕ) (u : View) → get_elem? (set s.views id (without_pending v) ++ split_off_view v ∷ []) jd ≡ some u → IsSeatAt now u
+  split_fits some_pending jd u there = ⊎_elim
       (λ (t : (jd ≡ id) × (without_pending v ≡ u)). subst (λ (x : View). IsSeatAt now x) t.1 (λ _. (
         (λ _. record { steps = d.steps; joined = d.joined; pending = λ none. absurd (omega arith) }),
         (λ more. absurd (omega (arith, desk))),
@@ -337,37 +337,37 @@ module _ (z : TableSize) (s : Rows) (k : HasOneSchedule z s) (id : ℕ) (v : Vie
       (λ (r : ((jd ≢ id) × (get_elem? s.views jd ≡ some u)) ⊎ ((jd ≡ length (set s.views id (without_pending v))) × (split_off_view v ≡ u))). ⊎_elim
       (λ (t : (jd ≢ id) × (get_elem? s.views jd ≡ some u)). k.seats jd u t.1)
       (λ (t : (jd ≡ length (set s.views id (without_pending v))) × (split_off_view v ≡ u)). subst (λ (x : View). IsSeatAt now x) t.1 (λ _. (
-        (λ none. absurd (omega (arith, some_out, none))),
-        (λ more. let o = d.pending some_out in record { split = o.0; steps = o.1; pending = refl }),
+        (λ none. absurd (omega (arith, some_pending, none))),
+        (λ more. let o = d.pending some_pending in record { split = o.0; steps = o.1; pending = refl }),
       )))
       r)
-      (split_view some_out jd u there)
+      (split_view some_pending jd u there)
 
-  split_alone : (some_out : 0 < v.pending_worker) (jd je n : ℕ) (u w : View) → get_elem? (set s.views id (without_pending v) ++ split_off_view v ∷ []) jd ≡ some u → get_elem? (set s.views id (without_pending v) ++ split_off_view v ∷ []) je ≡ some w → StandsFor u n → StandsFor w n → jd ≡ je
-  split_alone some_out jd je n u w there also mine theirs =
+  split_alone : (some_pending : 0 < v.pending_worker) (jd je n : ℕ) (u w : View) → get_elem? (set s.views id (without_pending v) ++ split_off_view v ∷ []) jd ≡ some u → get_elem? (set s.views id (without_pending v) ++ split_off_view v ∷ []) je ≡ some w → StandsFor u n → StandsFor w n → jd ≡ je
+  split_alone some_pending jd je n u w there also mine theirs =
       let len : ℕ = length (set s.views id (without_pending v)) in
       let Ours : ℕ → View → Type 0 = λ j x. (j ≢ id) × (get_elem? s.views j ≡ some x) in
       let before : (j : ℕ) (x : View) → Ours j x → StandsFor x n → StandsFor v n → ⊥ = λ j x o c h. o.0 (sym (k.alone id j n v x at o.1 h c)) in
-      let held : n ≡ v.pending_worker → StandsFor v n = λ e. (alive, inr (e, omega (arith, e, some_out))) in
+      let held : n ≡ v.pending_worker → StandsFor v n = λ e. (alive, inr (e, omega (arith, e, some_pending))) in
       let first : n ≡ 0 → StandsFor v n = λ e. (alive, inl (e ∙ sym desk)) in
       ⊎_elim
       (λ (a : (jd ≡ id) × (n ≡ 0)). ⊎_elim
       (λ (b : (je ≡ id) × (n ≡ 0)). a.0 ∙ sym b.0)
-      (λ (r : Ours je w ⊎ ((je ≡ len) × (n ≡ v.pending_worker))). ⊎_elim (λ (b : Ours je w). absurd (before je w b theirs (first a.1))) (λ (b : (je ≡ len) × (n ≡ v.pending_worker)). absurd (omega (arith, a.1, b.1, some_out))) r)
-      (split_claim some_out je n w also theirs))
+      (λ (r : Ours je w ⊎ ((je ≡ len) × (n ≡ v.pending_worker))). ⊎_elim (λ (b : Ours je w). absurd (before je w b theirs (first a.1))) (λ (b : (je ≡ len) × (n ≡ v.pending_worker)). absurd (omega (arith, a.1, b.1, some_pending))) r)
+      (split_claim some_pending je n w also theirs))
       (λ (q : Ours jd u ⊎ ((jd ≡ len) × (n ≡ v.pending_worker))). ⊎_elim
       (λ (a : Ours jd u). ⊎_elim
       (λ (b : (je ≡ id) × (n ≡ 0)). absurd (before jd u a mine (first b.1)))
       (λ (r : Ours je w ⊎ ((je ≡ len) × (n ≡ v.pending_worker))). ⊎_elim (λ (b : Ours je w). k.alone jd je n u w a.1 b.1 mine theirs) (λ (b : (je ≡ len) × (n ≡ v.pending_worker)). absurd (before jd u a mine (held b.1))) r)
-      (split_claim some_out je n w also theirs))
+      (split_claim some_pending je n w also theirs))
       (λ (a : (jd ≡ len) × (n ≡ v.pending_worker)). ⊎_elim
-      (λ (b : (je ≡ id) × (n ≡ 0)). absurd (omega (arith, a.1, b.1, some_out)))
+      (λ (b : (je ≡ id) × (n ≡ 0)). absurd (omega (arith, a.1, b.1, some_pending)))
       (λ (r : Ours je w ⊎ ((je ≡ len) × (n ≡ v.pending_worker))). ⊎_elim (λ (b : Ours je w). absurd (before je w b theirs (held a.1))) (λ (b : (je ≡ len) × (n ≡ v.pending_worker)). a.0 ∙ sym b.0) r)
-      (split_claim some_out je n w also theirs))
+      (split_claim some_pending je n w also theirs))
       q)
-      (split_claim some_out jd n u there mine)
+      (split_claim some_pending jd n u there mine)
 
-module _ (z : TableSize) (s : Rows) (k : HasOneSchedule z s) (id : ℕ) (v : View) (at : get_elem? s.views id ≡ some v) (alive : v.alive ≡ true) (desk : v.number ≡ 0) (some_out : 0 < v.pending_worker) where
+module _ (z : TableSize) (s : Rows) (k : HasOneSchedule z s) (id : ℕ) (v : View) (at : get_elem? s.views id ≡ some v) (alive : v.alive ≡ true) (desk : v.number ≡ 0) (some_pending : 0 < v.pending_worker) where
   split_living : (n : ℕ) → is_split (run z k.moves).desk (suc n) ≡ true → HasSeat (set s.views id (without_pending v) ++ split_off_view v ∷ []) (suc n)
   split_living n h = let l = k.living n h in let L : List View = set s.views id (without_pending v) in dite (ℕ_discrete l.0 id)
       (λ (e : l.0 ≡ id). let same : l.1 ≡ v = some-injective l.1 v (sym l.2 ∙ (ap (get_elem? s.views) e ∙ at)) in let c : StandsFor v (suc n) = subst (λ (u : View). StandsFor u (suc n)) same l.3 in
@@ -375,13 +375,13 @@ module _ (z : TableSize) (s : Rows) (k : HasOneSchedule z s) (id : ℕ) (v : Vie
       (λ (e : l.0 ≢ id). (l.0, l.1, at_longer L (split_off_view v ∷ []) l.0 l.1 (set_else s.views id l.0 (without_pending v) e ∙ l.2), l.3))
 
 pub splits : (z : TableSize) (id : ℕ) (v : View) → v.alive ≡ true → v.number ≡ 0 → 0 < v.pending_worker → Splits (HasOneSchedule z) id v (without_pending v) (split_off_view v)
-splits z id v alive desk some_out s k at = record {
+splits z id v alive desk some_pending s k at = record {
   moves = k.moves;
   runs = k.runs;
   words = k.words;
-  seats = split_fits z s k id v at alive desk some_out;
-  alone = split_alone z s k id v at alive desk some_out;
-  living = split_living z s k id v at alive desk some_out;
+  seats = split_fits z s k id v at alive desk some_pending;
+  alone = split_alone z s k id v at alive desk some_pending;
+  living = split_living z s k id v at alive desk some_pending;
 }
 
 -- the desk takes in the part of the worker w, whose seat is spent

@@ -16,12 +16,12 @@ use Rattle.session_rule.specs.declared.seats.WorkerSeat.{WorkerSeat}
 abbrev pub size_of : Table → TableSize
 size_of t = t.size
 
--- the seat was made for the table
+-- the seat was made for the table. A worker's seat has a number of the table's
 abbrev pub IsDeskOf : Table → Seat → Type 0
 IsDeskOf t s = s.seat.table_id ≡ t.table.shared.table_id
 
 abbrev pub IsWorkerOf : Table → WorkerSeat → Type 0
-IsWorkerOf t s = (s.seat.table_id ≡ t.table.shared.table_id) × (s.number ≤ t.size.workers)
+IsWorkerOf t s = (s.seat.table_id ≡ t.table.shared.table_id) × (0 < s.number) × (s.number ≤ t.size.workers)
 
 -- the desk's list, the latest step first, and the parts that its joins have ended
 abbrev pub desk_steps : Seat → List Step

@@ -40,8 +40,8 @@ pub fn write_row_word(table: &Table, seat: &mut Seat, row: u32, index: u32, word
     ensures { DeskHasMade table.now seat.old seat.new (WriteRow row index word) }
 {
     let step = Step::WriteRow { row, index, word };
-    let at = table.row_at(row, index);
-    store_as::<Brand>(table, &mut seat.seat, at, word, &step);
+    let row_word = table.row_at(row, index);
+    store_as::<Brand>(table, &mut seat.seat, row_word, word, &step);
 }
 
 /// Stores a key word of a slot. Key words are counted from 1.
@@ -51,8 +51,8 @@ pub fn write_key_word(table: &Table, seat: &mut Seat, slot: u32, index: u32, wor
     ensures { DeskHasMade table.now seat.old seat.new (WriteKey slot index word) }
 {
     let step = Step::WriteKey { slot, index, word };
-    let at = table.key_at(slot, index);
-    store_as::<Brand>(table, &mut seat.seat, at, word, &step);
+    let key_word = table.key_at(slot, index);
+    store_as::<Brand>(table, &mut seat.seat, key_word, word, &step);
 }
 
 /// Reserves a slot that was never used: sequence number 0, generation 1, that row, closed.
@@ -63,8 +63,14 @@ pub fn reserve_new(table: &Table, seat: &mut Seat, slot: u32, row: u32)
     ensures { DeskHasMade table.now seat.old seat.new (ReserveNew slot row) }
 {
     let step = Step::ReserveNew { slot, row };
-    let at = table.slot_at(slot);
-    store_as::<Brand>(table, &mut seat.seat, at, reserved_word(1, row), &step);
+    let slot_word = table.slot_at(slot);
+    store_as::<Brand>(
+        table,
+        &mut seat.seat,
+        slot_word,
+        reserved_word(1, row),
+        &step,
+    );
 }
 
 /// Reserves a slot that was used before: sequence number 0, the next generation, that row, closed.
@@ -79,11 +85,11 @@ pub fn reserve_used(table: &Table, seat: &mut Seat, slot: u32, generation: u32, 
         generation,
         row,
     };
-    let at = table.slot_at(slot);
+    let slot_word = table.slot_at(slot);
     store_as::<Brand>(
         table,
         &mut seat.seat,
-        at,
+        slot_word,
         reserved_word(generation, row),
         &step,
     );
@@ -96,8 +102,8 @@ pub fn start_slot(table: &Table, seat: &mut Seat, slot: u32) -> u64
     ensures { DeskHasMade table.now seat.old seat.new (Start slot result) }
 {
     let step = Step::Start { slot, read: 0 };
-    let at = table.slot_at(slot);
-    and_as::<Brand>(table, &mut seat.seat, at, !CLOSED, &step)
+    let slot_word = table.slot_at(slot);
+    and_as::<Brand>(table, &mut seat.seat, slot_word, !CLOSED, &step)
 }
 
 /// Exchanges the row of an open slot. Answers the word that stood there.
@@ -113,8 +119,8 @@ pub fn reconfigure(table: &Table, seat: &mut Seat, slot: u32, old: u32, new: u32
         new,
         read: 0,
     };
-    let at = table.slot_at(slot);
-    xor_as::<Brand>(table, &mut seat.seat, at, both_rows(old, new), &step)
+    let slot_word = table.slot_at(slot);
+    xor_as::<Brand>(table, &mut seat.seat, slot_word, both_rows(old, new), &step)
 }
 
 /// Closes an open slot. Answers the word that stood there.
@@ -125,8 +131,8 @@ pub fn close_slot(table: &Table, seat: &mut Seat, slot: u32) -> u64
     ensures { DeskHasMade table.now seat.old seat.new (Close slot result) }
 {
     let step = Step::Close { slot, read: 0 };
-    let at = table.slot_at(slot);
-    or_as::<Brand>(table, &mut seat.seat, at, CLOSED, &step)
+    let slot_word = table.slot_at(slot);
+    or_as::<Brand>(table, &mut seat.seat, slot_word, CLOSED, &step)
 }
 
 /// Loads the word of an open slot.
@@ -137,8 +143,8 @@ pub fn peek_slot(table: &Table, seat: &mut Seat, slot: u32) -> u64
     ensures { DeskHasMade table.now seat.old seat.new (Peek slot result) }
 {
     let step = Step::Peek { slot, read: 0 };
-    let at = table.slot_at(slot);
-    load_as::<Brand>(table, &mut seat.seat, at, &step)
+    let slot_word = table.slot_at(slot);
+    load_as::<Brand>(table, &mut seat.seat, slot_word, &step)
 }
 
 /// Closes an open slot if its word is the one expected. Answers the word that stood there.
@@ -153,15 +159,9 @@ pub fn expire_slot(table: &Table, seat: &mut Seat, slot: u32, expected: u64) -> 
         expected,
         read: 0,
     };
-    let at = table.slot_at(slot);
-    exchange_as::<Brand>(
-        table,
-        &mut seat.seat,
-        at,
-        expected,
-        expected | CLOSED,
-        &step,
-    )
+    let slot_word = table.slot_at(slot);
+    let closed = expected | CLOSED;
+    exchange_as::<Brand>(table, &mut seat.seat, slot_word, expected, closed, &step)
 }
 
 /// Loads the announcement word of a worker: 0, or the number of a slot plus 1.
@@ -171,6 +171,6 @@ pub fn scan(table: &Table, seat: &mut Seat, worker: u32) -> u64
     ensures { DeskHasMade table.now seat.old seat.new (Scan worker result) }
 {
     let step = Step::Scan { worker, read: 0 };
-    let at = table.announced_at(worker);
-    load_as::<Brand>(table, &mut seat.seat, at, &step)
+    let announcement = table.announced_at(worker);
+    load_as::<Brand>(table, &mut seat.seat, announcement, &step)
 }

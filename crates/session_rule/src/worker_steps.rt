@@ -18,8 +18,14 @@ pub fn announce(table: &Table, seat: &mut WorkerSeat, slot: u32)
     ensures { WorkerHasMade table.now seat.old seat.new (Announce slot) }
 {
     let step = Step::Announce { slot };
-    let at = table.announced_at(seat.number);
-    store_as::<Brand>(table, &mut seat.seat, at, u64::from(slot) + 1, &step);
+    let announcement = table.announced_at(seat.number);
+    store_as::<Brand>(
+        table,
+        &mut seat.seat,
+        announcement,
+        u64::from(slot) + 1,
+        &step,
+    );
 }
 
 /// Retires the worker's announcement.
@@ -28,8 +34,8 @@ pub fn retire_announcement(table: &Table, seat: &mut WorkerSeat)
     ensures { WorkerHasMade table.now seat.old seat.new (Retire) }
 {
     let step = Step::Retire;
-    let at = table.announced_at(seat.number);
-    store_as::<Brand>(table, &mut seat.seat, at, 0, &step);
+    let announcement = table.announced_at(seat.number);
+    store_as::<Brand>(table, &mut seat.seat, announcement, 0, &step);
 }
 
 /// Loads the word of the slot that was announced last, for a datagram.
@@ -43,8 +49,8 @@ pub fn look(table: &Table, seat: &mut WorkerSeat, slot: u32, query: &Query) -> u
         query: *query,
         read: 0,
     };
-    let at = table.slot_at(slot);
-    load_as::<Brand>(table, &mut seat.seat, at, &step)
+    let slot_word = table.slot_at(slot);
+    load_as::<Brand>(table, &mut seat.seat, slot_word, &step)
 }
 
 /// Loads a key word of the slot that the worker holds. Key words are counted from 1.
@@ -59,8 +65,8 @@ pub fn load_key_word(table: &Table, seat: &mut WorkerSeat, slot: u32, index: u32
         index,
         read: 0,
     };
-    let at = table.key_at(slot, index);
-    load_as::<Brand>(table, &mut seat.seat, at, &step)
+    let key_word = table.key_at(slot, index);
+    load_as::<Brand>(table, &mut seat.seat, key_word, &step)
 }
 
 /// Draws the next sequence number of the session that the worker saw last. Answers the word that stood there.
@@ -71,8 +77,8 @@ pub fn draw_slot(table: &Table, seat: &mut WorkerSeat, slot: u32) -> u64
     ensures { WorkerHasMade table.now seat.old seat.new (Draw slot result) }
 {
     let step = Step::Draw { slot, read: 0 };
-    let at = table.slot_at(slot);
-    add_as::<Brand>(table, &mut seat.seat, at, DRAW, &step)
+    let slot_word = table.slot_at(slot);
+    add_as::<Brand>(table, &mut seat.seat, slot_word, DRAW, &step)
 }
 
 /// Loads a word of a row that a slot's word has named. Rows and their words are counted from 1.
@@ -86,6 +92,6 @@ pub fn load_row_word(table: &Table, seat: &mut WorkerSeat, row: u32, index: u32)
         index,
         read: 0,
     };
-    let at = table.row_at(row, index);
-    load_as::<Brand>(table, &mut seat.seat, at, &step)
+    let row_word = table.row_at(row, index);
+    load_as::<Brand>(table, &mut seat.seat, row_word, &step)
 }

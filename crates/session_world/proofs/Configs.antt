@@ -11,7 +11,7 @@ use Rattle.session_world.specs.Allowed.{DeskMay}
 use Rattle.session_world.specs.Runs.{run}
 use Rattle.session_world.specs.History.{Session, SessionMap, Event, reconfigured, drawn, entry_after, map_after, IsLegalAt, IsBy, IsLegal}
 use Rattle.session_world.specs.Explains.{spans_of, with_wrapped_counts, answers_in, desk_count, desk_events_before, IsInSpans, opens, last_of, opened_since, KeepsSession, NoOpenBetween, Explained}
-use Rattle.session_world.proofs.Tests.{some_none, number_case}
+use Rattle.session_world.proofs.BoolFacts.{some_none, number_case}
 use Rattle.session_world.proofs.DeskFacts.{DeskDid, reserved_used, row_complete, still_complete, config_kept}
 use Rattle.session_world.proofs.Sound.{run_sound}
 use Rattle.session_world.proofs.Histories.{any_row, RowMap}

@@ -10,7 +10,7 @@ use Rattle.session_world.specs.Sizes.{IsWithinLimits}
 use Rattle.session_world.specs.Keys.{put, row_list, config_of, IsConfigRow}
 use Rattle.session_world.specs.Desk.{is_open, generation_of, row_of, is_reserved, rows_written, row_word_of, config_at, IsComplete, is_split}
 use Rattle.session_world.specs.Allowed.{DeskMay}
-use Rattle.session_world.proofs.Tests.{true_ne_false, both, either_of, not_true, number_case, is_false}
+use Rattle.session_world.proofs.BoolFacts.{true_ne_false, both, either_of, not_true, number_case, is_false}
 
 -- each step of the list was allowed
 abbrev pub DeskDid : TableSize → List Step → Type 0

@@ -18,7 +18,7 @@ use Rattle.session_world.specs.Allowed.{DeskMay}
 use Rattle.session_world.specs.Runs.{CoreState, parts_after, state_after}
 use Rattle.session_world.specs.History.{Event, reconfigured, map_after, IsLegal}
 use Rattle.session_world.specs.Explains.{with_wrapped_counts, answers_in, desk_events_before, last_of, NoOpenBetween}
-use Rattle.session_world.proofs.Tests.{true_ne_false, bool, number_case, if_yes, if_no}
+use Rattle.session_world.proofs.BoolFacts.{true_ne_false, bool, number_case, if_yes, if_no}
 use Rattle.session_world.proofs.KeyFacts.{same_key_eq, same_key_refl, excludes_self}
 use Rattle.session_world.proofs.LegalHistories.{was_reconfigured}
 use Rattle.session_world.proofs.DeskFacts.{open_used, open_inside, row_fits}

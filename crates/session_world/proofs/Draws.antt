@@ -16,7 +16,7 @@ use Rattle.session_world.specs.Answers.{Answer, drew, late, draw_answer, draw_gi
 use Rattle.session_world.specs.Runs.{CoreState, state_after}
 use Rattle.session_world.specs.History.{Event, drawn as drawn_session, map_after}
 use Rattle.session_world.specs.Explains.{answers_in, desk_count}
-use Rattle.session_world.proofs.Tests.{true_ne_false, bool, some_none, number_case, if_yes, if_no}
+use Rattle.session_world.proofs.BoolFacts.{true_ne_false, bool, some_none, number_case, if_yes, if_no}
 use Rattle.session_world.proofs.KeyFacts.{same_key_eq, same_key_refl, excludes_self}
 use Rattle.session_world.proofs.LegalHistories.{was_drawn}
 use Rattle.session_world.proofs.SlotFacts.{open_alone}

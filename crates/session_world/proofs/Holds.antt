@@ -10,7 +10,7 @@ use Rattle.session_world.specs.Desk.{is_split}
 use Rattle.session_world.specs.Worker.{LastLook, has_key_words, key_matches, is_passed, last_look}
 use Rattle.session_world.specs.Runs.{CoreState, state_after}
 use Rattle.session_world.specs.History.{Event}
-use Rattle.session_world.proofs.Tests.{true_ne_false, bool, or_r}
+use Rattle.session_world.proofs.BoolFacts.{true_ne_false, bool, or_r}
 use Rattle.session_world.proofs.Sound.{IsSound}
 use Rattle.session_world.proofs.Histories.{Who}
 use Rattle.session_world.proofs.Tied.{Gap, Ahead, may_go_on, who, IsHolding, LookFits, Tied}

@@ -11,7 +11,7 @@ use Rattle.session_key.proofs.MatchLaws.{matched, matched_excludes, excludes-ref
 use Rattle.session_key.proofs.WordLaws.{key_words_fit}
 use Rattle.session_key.proofs.PlaceLaws.{place_range}
 use Rattle.session_world.specs.Keys.{Query, Key, Extra, key_list, key_of, extra_of, IsKey, same_number, same_query, start_of}
-use Rattle.session_world.proofs.Tests.{true_ne_false, both}
+use Rattle.session_world.proofs.BoolFacts.{true_ne_false, both}
 
 same_number_eq : (o p : Option ℕ) → same_number o p ≡ true → o ≡ p
 same_number_eq None None h = refl

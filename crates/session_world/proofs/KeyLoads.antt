@@ -16,7 +16,7 @@ use Rattle.session_world.specs.Answers.{Answer, seen, missed, words_give, comple
 use Rattle.session_world.specs.Runs.{CoreState, state_after}
 use Rattle.session_world.specs.History.{Event, NoMatch, IsLegalAt}
 use Rattle.session_world.specs.Explains.{with_wrapped_counts, answers_in}
-use Rattle.session_world.proofs.Tests.{true_ne_false, bool, both, either_of, not_true, not_zero, not_equal, number_case, if_yes, if_no, some_none, some_same, put_same, put_other, put_true}
+use Rattle.session_world.proofs.BoolFacts.{true_ne_false, bool, both, either_of, not_true, not_zero, not_equal, number_case, if_yes, if_no, some_none, some_same, put_same, put_other, put_true}
 use Rattle.session_world.proofs.KeyFacts.{start_low}
 use Rattle.session_world.proofs.Walks.{distance_low, distance_same}
 use Rattle.session_world.proofs.Sound.{IsSound}

@@ -5,7 +5,7 @@ use Rattle.session_key.specs.Matching.{excludes}
 use Rattle.session_world.specs.Keys.{Key, has_key}
 use Rattle.session_world.specs.Answers.{Answer, opened, configured, counted, closed, expired, seen, drew, missed, late}
 use Rattle.session_world.specs.History.{Session, SessionMap, Event, reconfigured, drawn, entry_after, map_after, IsLegalAt, IsLegal, draws_after, draws_in_session, DrawsCount, OneMatch}
-use Rattle.session_world.proofs.Tests.{true_ne_false, bool, some_none, some_same}
+use Rattle.session_world.proofs.BoolFacts.{true_ne_false, bool, some_none, some_same}
 use Rattle.session_world.proofs.KeyFacts.{IsSoundKey, same_key_eq, matches_exclude, excludes_turn}
 
 -- the count of a bound key is the number of draws since its opening

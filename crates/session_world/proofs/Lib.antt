@@ -1,4 +1,4 @@
-pub mod Tests
+pub mod BoolFacts
 pub mod KeyFacts
 pub mod Walks
 pub mod LegalHistories

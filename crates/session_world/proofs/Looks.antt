@@ -15,7 +15,7 @@ use Rattle.session_world.specs.Worker.{LastLook, has_key_words, key_matches, is_
 use Rattle.session_world.specs.Answers.{missed, is_miss}
 use Rattle.session_world.specs.Runs.{CoreState, state_after}
 use Rattle.session_world.specs.History.{Event, NoMatch}
-use Rattle.session_world.proofs.Tests.{true_ne_false, bool, both, either_of, and_i, not_true, not_zero, not_equal, number_case, some_same}
+use Rattle.session_world.proofs.BoolFacts.{true_ne_false, bool, both, either_of, and_i, not_true, not_zero, not_equal, number_case, some_same}
 use Rattle.session_world.proofs.KeyFacts.{same_query_eq, matches_start, start_low}
 use Rattle.session_world.proofs.Walks.{distance_low, distance_same, distance_start, distance_next}
 use Rattle.session_world.proofs.DeskFacts.{open_inside}

@@ -13,7 +13,7 @@ use Rattle.session_world.specs.Worker.{announced, holds, names_row}
 use Rattle.session_world.specs.Allowed.{DeskMay, WorkerMay, IsAllowed}
 use Rattle.session_world.specs.Runs.{CoreState, state_after, own_steps, ScheduledStep, run, Runs}
 use Rattle.session_world.specs.Loads.{KeyLoadsAre, RowLoadsAre, names_open, names_open_here, HeldKey, WorkerWords, IsWordOf, DeskWords, LoadedWords}
-use Rattle.session_world.proofs.Tests.{true_ne_false, bool, both, either_of, and_i, or_l, or_r, no_or, number_case, some_same, is_false}
+use Rattle.session_world.proofs.BoolFacts.{true_ne_false, bool, both, either_of, and_i, or_l, or_r, no_or, number_case, some_same, is_false}
 use Rattle.session_world.proofs.KeyFacts.{key_of_same, is_key_same}
 use Rattle.session_world.proofs.DeskFacts.{DeskDid, open_used, open_inside, row_complete, complete_low, still_complete, row_kept, config_kept, is_config_same, complete_config}
 use Rattle.session_world.proofs.SlotFacts.{use_sound, open_keyed}

@@ -18,7 +18,7 @@ use Rattle.session_world.specs.Runs.{CoreState, state_after, own_steps, run}
 use Rattle.session_world.specs.History.{Session, Event, drawn, entry_after, map_after, IsLegalAt, IsBy, IsLegal}
 use Rattle.session_world.specs.Explains.{Span, living_span, ended_spans, spans_of, answers_of_spans, with_wrapped_counts, answers_in, desk_count, desk_events_before, AllWithin, IsInSpans}
 use Rattle.session_world.specs.Refusals.{OnlyDrawsChange, ReuseIsScanned, TakesSlot, HeldIsNotTaken, LooksAreAnnounced, ExpiresAreExact, NoFalseMiss}
-use Rattle.session_world.proofs.Tests.{true_ne_false, bool, number_case, if_yes}
+use Rattle.session_world.proofs.BoolFacts.{true_ne_false, bool, number_case, if_yes}
 use Rattle.session_world.proofs.KeyFacts.{same_key_refl}
 use Rattle.session_world.proofs.Holding.{Spares, spares}
 use Rattle.session_world.proofs.Sound.{IsSound, run_sound}

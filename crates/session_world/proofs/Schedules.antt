@@ -11,7 +11,7 @@ use Rattle.session_world.specs.Allowed.{DeskMay, HasSeen, WorkerMay, IsAllowed}
 use Rattle.session_world.specs.Runs.{CoreState, state_after, first_state, own_steps, ScheduledStep, run, Runs}
 use Rattle.session_world.specs.History.{Event}
 use Rattle.session_world.specs.Explains.{answers, answers_in}
-use Rattle.session_world.proofs.Tests.{true_ne_false, bool, some_none}
+use Rattle.session_world.proofs.BoolFacts.{true_ne_false, bool, some_none}
 use Rattle.session_world.proofs.Sound.{IsSound, run_sound}
 use Rattle.session_world.proofs.Tied.{IsHolding, HasSight, Tied}
 use Rattle.session_world.proofs.Looks.{look_keeps}

@@ -11,7 +11,7 @@ use Rattle.session_world.specs.Worker.{LastLook, last_look}
 use Rattle.session_world.specs.Allowed.{DeskMay}
 use Rattle.session_world.specs.Runs.{CoreState, state_after}
 use Rattle.session_world.specs.History.{Event, map_after}
-use Rattle.session_world.proofs.Tests.{both, number_case, some_none, put_same, put_other}
+use Rattle.session_world.proofs.BoolFacts.{both, number_case, some_none, put_same, put_other}
 use Rattle.session_world.proofs.Histories.{Who}
 use Rattle.session_world.proofs.Tied.{who, LookFits, IsBoundSlot, Tied, look_same}
 use Rattle.session_world.proofs.Spans.{split_own, split_order, join_own, join_order}

@@ -16,7 +16,7 @@ use Rattle.session_world.specs.Allowed.{DeskMay}
 use Rattle.session_world.specs.Runs.{CoreState, state_after}
 use Rattle.session_world.specs.History.{Session, Event, map_after, Has, NoMatch}
 use Rattle.session_world.specs.Explains.{answers_in, desk_count, opens, last_of}
-use Rattle.session_world.proofs.Tests.{true_ne_false, bool, both, or_l, or_r, not_equal, number_case, some_none, if_yes, if_no}
+use Rattle.session_world.proofs.BoolFacts.{true_ne_false, bool, both, or_l, or_r, not_equal, number_case, some_none, if_yes, if_no}
 use Rattle.session_world.proofs.KeyFacts.{IsSoundKey, same_key_eq, same_key_refl, excludes_self, matches_exclude, words_sound, words_sound_key}
 use Rattle.session_world.proofs.DeskFacts.{open_inside}
 use Rattle.session_world.proofs.SlotFacts.{use_sound, open_alone}

@@ -10,7 +10,7 @@ use Rattle.session_world.specs.Answers.{Answer, desk_gives, desk_answers, answer
 use Rattle.session_world.specs.Runs.{CoreState, ended_part, state_after}
 use Rattle.session_world.specs.History.{Event}
 use Rattle.session_world.specs.Explains.{Span, ended_span, ended_spans, living_span, spans_of, answers_of_spans, answers, answers_in, desk_count, desk_events_before, AllWithin, IsInSpans}
-use Rattle.session_world.proofs.Tests.{or_l, number_case, if_yes, if_no, put_same, put_other}
+use Rattle.session_world.proofs.BoolFacts.{or_l, number_case, if_yes, if_no, put_same, put_other}
 use Rattle.session_world.proofs.Tied.{who, Tied, count_of}
 
 -- ---- a step of the desk that splits and joins nobody

@@ -13,7 +13,7 @@ use Rattle.session_world.specs.Answers.{Answer, seen, desk_answers, answers_at_s
 use Rattle.session_world.specs.Runs.{CoreState}
 use Rattle.session_world.specs.History.{Session, Event, map_after, Has, NoMatch, IsLegal}
 use Rattle.session_world.specs.Explains.{spans_of, answers, with_wrapped_counts, answers_in, desk_count, desk_events_before, IsInSpans, opens, NoOpenBetween}
-use Rattle.session_world.proofs.Tests.{both}
+use Rattle.session_world.proofs.BoolFacts.{both}
 use Rattle.session_world.proofs.KeyFacts.{key_of_same, extra_of_same}
 use Rattle.session_world.proofs.Histories.{any_row, RowMap, IsQuiet, quiet_not_opens, Ins, Who, Point, Any, NotOpens, point_map, Pointwise, point_ins, Since, since_ins, After, after_map, after_ins}
 

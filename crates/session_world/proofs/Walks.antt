@@ -3,7 +3,7 @@ use Rattle.std.proofs.Common.{◌≡◌, ◌≢◌, ◌⊎◌, inl, inr, ⊎_eli
 use Rattle.std.proofs.lemmas.Bool.{leb-true, leb-false}
 use Rattle.std.proofs.Math.Dec.{leb}
 use Rattle.session_world.specs.Keys.{next_slot, distance}
-use Rattle.session_world.proofs.Tests.{number_case, bool}
+use Rattle.session_world.proofs.BoolFacts.{number_case, bool}
 
 distance_case : (slots from i : ℕ) → ((from ≤ i) × (distance slots from i ≡ i - from)) ⊎ ((i < from) × (distance slots from i ≡ i + slots - from))
 unfolding distance

@@ -18,7 +18,7 @@ use Rattle.session_world.specs.Answers.{Answer, opened, seen, drew, missed, late
 use Rattle.session_world.specs.Allowed.{HasSeen}
 use Rattle.session_world.specs.Runs.{CoreState, ScheduledStep, run, Runs}
 use Rattle.session_world.specs.WholeRun.{by_desk, by_worker, row_steps, key_steps, look_steps, load_steps, whole_run, WholeRun}
-use Rattle.session_world.proofs.Tests.{true_ne_false, or_l, no_and, number_case, if_yes}
+use Rattle.session_world.proofs.BoolFacts.{true_ne_false, or_l, no_and, number_case, if_yes}
 use Rattle.session_world.proofs.KeyFacts.{key_of_same, extra_of_same, is_key_same, matches_start, start_low}
 use Rattle.session_world.proofs.Walks.{distance_start}
 use Rattle.session_world.proofs.Sound.{run_sound}

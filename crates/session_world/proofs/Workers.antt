@@ -12,7 +12,7 @@ use Rattle.session_world.specs.Answers.{step_gives}
 use Rattle.session_world.specs.Runs.{CoreState, state_after}
 use Rattle.session_world.specs.History.{Event, map_after, IsLegal}
 use Rattle.session_world.specs.Explains.{answers_in, desk_events_before, NoOpenBetween}
-use Rattle.session_world.proofs.Tests.{true_ne_false, and_i, or_l, some_none, some_same}
+use Rattle.session_world.proofs.BoolFacts.{true_ne_false, and_i, or_l, some_none, some_same}
 use Rattle.session_world.proofs.DeskFacts.{open_inside}
 use Rattle.session_world.proofs.Sound.{IsSound, put_part}
 use Rattle.session_world.proofs.Histories.{any_row}

@@ -1,4 +1,4 @@
--- When a step is allowed, by its actor's own list.
+-- When a step is allowed, by its actor's own list (this project's own).
 use Rattle.std.specs.Prelude.{◌≡◌, ◌⊎◌, ℕ, zero, suc, ◌+◌, ◌-◌, ◌*◌, ◌<◌, ◌≤◌, true, false, List, Option, Some, None}
 use Rattle.slot_word.specs.Fields.{is_open_word}
 use Rattle.session_key.specs.Matching.{excludes}

@@ -1,4 +1,4 @@
--- The answers that an actor's own list gives. A configuration is named by its row here, and counts are modulo 2 ^ 32.
+-- The answers that an actor's own list gives (this project's own). A configuration is named by its row here, and counts are modulo 2 ^ 32.
 use Rattle.std.specs.Prelude.{ℕ, ◌==◌, Bool, true, false, ◌||◌, ◌&&◌, not, if◌then◌else◌, List, [], ◌∷◌, ◌++◌, length, Option, Some, None}
 use Rattle.slot_word.specs.Fields.{sequence_in, generation_in, row_in, is_open_word}
 use Rattle.session_world.specs.declared.steps.Step.{Step}

@@ -1,4 +1,4 @@
--- What the desk's own list of steps says of the slots, of the rows and of the workers. The latest step comes first.
+-- What the desk's own list of steps says of the slots, of the rows and of the workers (this project's own). The latest step comes first.
 use Rattle.std.specs.Prelude.{◌≡◌, ℕ, suc, ◌+◌, ◌*◌, ◌<◌, ◌≤◌, ◌==◌, Bool, true, false, ◌||◌, ◌&&◌, not, if◌then◌else◌, List, [], ◌∷◌}
 use Rattle.slot_word.specs.declared.TheConstants.{GENERATION_LIMIT}
 use Rattle.session_world.specs.declared.steps.TableSize.{TableSize}

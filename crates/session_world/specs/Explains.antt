@@ -1,4 +1,4 @@
--- When a history explains a schedule.
+-- When a history explains a schedule (this project's own).
 use Rattle.std.specs.Prelude.{◌≡◌, ℕ, zero, suc, ◌≤◌, ◌%◌, ◌^◌, ◌==◌, Bool, false, ◌||◌, if◌then◌else◌, List, [], ◌∷◌, ◌++◌, length, map, take, drop, Option, Some, None}
 use Rattle.refl_types.specs.Same.{same_key}
 use Rattle.session_world.specs.declared.steps.TableSize.{TableSize}

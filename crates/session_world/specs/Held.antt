@@ -1,4 +1,4 @@
--- What stays while a worker holds a slot.
+-- What stays while a worker holds a slot (this project's own).
 use Rattle.std.specs.Prelude.{◌≡◌, ℕ, suc, ◌<◌, true, List, ◌∷◌, slice_index}
 use Rattle.slot_word.specs.Fields.{generation_in}
 use Rattle.session_world.specs.declared.steps.TableSize.{TableSize}

@@ -1,4 +1,4 @@
--- What the words are that workers and the desk read.
+-- What the words are that workers and the desk read (this project's own).
 use Rattle.std.specs.Prelude.{◌≡◌, ℕ, suc, ◌<◌, ◌≤◌, ◌==◌, Bool, true, false, ◌||◌, ◌&&◌, List, [], ◌∷◌}
 use Rattle.slot_word.specs.Fields.{generation_in, row_in, is_open_word}
 use Rattle.session_world.specs.declared.steps.TableSize.{TableSize}

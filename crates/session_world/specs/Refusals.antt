@@ -1,4 +1,4 @@
--- What no schedule that runs has, and what no history explains.
+-- What no schedule that runs has, and what no history explains (this project's own).
 use Rattle.std.specs.Prelude.{◌≡◌, ◌⊎◌, ℕ, suc, ◌+◌, ◌%◌, ◌^◌, ◌<◌, ◌≤◌, true, List, [], ◌∷◌}
 use Rattle.slot_word.specs.declared.TheConstants.{DRAW}
 use Rattle.session_key.specs.Matching.{matches}

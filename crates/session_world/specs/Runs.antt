@@ -1,4 +1,4 @@
--- The state of the table and of its actors, and the schedules that run. Every list has its latest entry first.
+-- The state of the table and of its actors, and the schedules that run (this project's own). Every list has its latest entry first.
 use Rattle.std.specs.Prelude.{ℕ, zero, suc, List, [], ◌∷◌, length, slice_index}
 use Rattle.session_world.specs.declared.steps.TableSize.{TableSize}
 use Rattle.session_world.specs.declared.steps.Step.{Step}

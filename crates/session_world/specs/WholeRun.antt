@@ -1,4 +1,4 @@
--- A run from the first row word to the first draw: that the definitions allow what they are for.
+-- A run from the first row word to the first draw: that the definitions allow what they are for (this project's own).
 use Rattle.std.specs.Prelude.{◌≡◌, ℕ, zero, suc, true, false, List, [], ◌∷◌}
 use Rattle.slot_word.specs.Fields.{word_of}
 use Rattle.session_key.specs.Matching.{matches}

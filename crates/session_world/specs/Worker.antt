@@ -1,4 +1,4 @@
--- What a worker's own list of steps says: the slot that it holds, and the walk of its looks. The latest step comes first.
+-- What a worker's own list of steps says: the slot that it holds, and the walk of its looks (this project's own). The latest step comes first.
 use Rattle.std.specs.Prelude.{ℕ, suc, ◌==◌, Bool, true, false, ◌||◌, ◌&&◌, not, if◌then◌else◌, List, [], ◌∷◌, Option, Some, None}
 use Rattle.slot_word.specs.Fields.{generation_in, row_in, is_open_word}
 use Rattle.session_key.specs.Matching.{matches}
