@@ -1,6 +1,6 @@
 //! Fields are read from left to right. Each reader gives the field and the octets after it.
 
-ghost use Rattle.std.specs.Prelude.{◌==◌};
+ghost use Rattle.std.specs.Prelude.{◌≡◌, ◌==◌, ◌≤◌, length, IfOk};
 ghost use Rattle.std.specs.Int.{w16, w32, w64};
 ghost use Rattle.octet_format.specs.Reading.{Gives, octet_at, octet_in, number_at, octets_at, zeros_at};
 
@@ -123,7 +123,8 @@ pub fn zeros_at(count: usize, octets: &[u8]) -> Result<&[u8], Unread>
 
 /// Reads one octet of a range.
 pub fn octet_in(low: u8, high: u8, octets: &[u8]) -> Result<(u8, &[u8]), Unread>
-    ensures { Gives (λ x. (x.0, x.1.now)) result (octet_in low high octets.now) }
+    ensures value { Gives (λ x. (x.0, x.1.now)) result (octet_in low high octets.now) }
+    ensures range { IfOk result (λ x. (low ≤ x.0) × (x.0 ≤ high)) }
 {
     match octets {
         [] => Err(Unread::More),
@@ -139,7 +140,8 @@ pub fn octet_in(low: u8, high: u8, octets: &[u8]) -> Result<(u8, &[u8]), Unread>
 
 /// Reads as many octets.
 pub fn octets_at(count: usize, octets: &[u8]) -> Result<(&[u8], &[u8]), Unread>
-    ensures { Gives (λ x. (x.0.now, x.1.now)) result (octets_at count octets.now) }
+    ensures value { Gives (λ x. (x.0.now, x.1.now)) result (octets_at count octets.now) }
+    ensures len { IfOk result (λ x. length x.0.now ≡ count) }
 {
     if octets.len() < count {
         return Err(Unread::More);

@@ -1,5 +1,5 @@
 -- The unauthenticated base packets (RFC 8762, sections 4.2.1 and 4.3.1) with the SSID (RFC 8972, section 3).
-use Rattle.std.specs.Prelude.{ℕ, List, [], ◌∷◌, ◌++◌, length, take, drop, replicate, Result, Ok, Err, nat_lt, if◌then◌else◌}
+use Rattle.std.specs.Prelude.{◌≡◌, ℕ, List, [], ◌∷◌, ◌++◌, length, drop, Result, Ok, Err, nat_lt, if◌then◌else◌}
 use Rattle.std.specs.Int.{w16, w32, to_be_bytes, from_be_bytes}
 use Rattle.octet_format.specs.Octets.{field}
 use Rattle.stamp_packet.specs.declared.fields.SenderBase.{SenderBase}
@@ -20,13 +20,13 @@ read_of octets = if nat_lt (length octets) 44 then Err (record {}) else Ok (send
 
 -- ---- the field tables, in the order of the wire
 
--- a request, up to its octets that must be zero
+-- a request, up to its octets that must be zero (28 of them)
 unfoldable pub request_fields : SenderBase → List ℕ
 request_fields s = to_be_bytes w32 s.sequence ++ s.timestamp ++ s.error ++ to_be_bytes w16 s.ssid
 
--- a request of 44 octets
-abbrev pub plain_request : SenderBase → List ℕ
-plain_request s = request_fields s ++ replicate 28 0
+-- the octets are a request with these fields, whatever stands where zeros must be, and whatever follows
+abbrev pub IsRequest : List ℕ → SenderBase → Type 0
+IsRequest octets s = octets ≡ request_fields s ++ drop 16 octets
 
 -- a reply: two octets, and after the TTL three, must be zero
 unfoldable pub plain_reply : ReplyBase → List ℕ

@@ -1,7 +1,7 @@
 //! The unauthenticated base packets, 44 octets (RFC 8762, sections 4.2.1 and 4.3.1; RFC 8972, section 3).
 
 ghost use Rattle.std.specs.Prelude.{◌≡◌, ◌≤◌, ◌++◌, length, drop, IfOk};
-ghost use Rattle.stamp_packet.specs.Plain.{read_of, plain_request, plain_reply};
+ghost use Rattle.stamp_packet.specs.Plain.{read_of, IsRequest, plain_reply};
 
 use crate::fields::{ReplyBase, SenderBase, Short};
 use octet_format::{field2, field4, field8, put};
@@ -13,7 +13,8 @@ const PLAIN_LEN: usize = 44;
 #[inline]
 #[tactic(auto, unfolding(crate::specs::Plain::sender_of))]
 pub fn read_plain(octets: &[u8]) -> Result<SenderBase, Short>
-    ensures { result ≡ read_of octets.now }
+    ensures value { result ≡ read_of octets.now }
+    ensures table { IfOk result (IsRequest octets.now) }
 {
     if octets.len() < PLAIN_LEN {
         return Err(Short);

@@ -1,0 +1,135 @@
+//! HMAC with SHA-256, cut to 128 bits (RFC 2104, sections 2 and 5; RFC 8762, section 4.4).
+#![tactic(auto)]
+
+ghost use Rattle.std.specs.Prelude.{◌≡◌, ◌≤◌, ◌++◌, length, take};
+ghost use Rattle.hmac_sha256.specs.Hmac.{block_of, filled, pad, mac128_of};
+
+use octet_format::put;
+use sha2::{Digest, Sha256};
+
+/// Octets of a block of SHA-256, and so of a key's block form.
+const BLOCK_LEN: usize = 64;
+
+/// What the inner key is exclusive-ored with (RFC 2104, section 2).
+const INNER_PAD: u8 = 0x36;
+
+/// What the outer key is exclusive-ored with.
+const OUTER_PAD: u8 = 0x5C;
+
+/// The block form of a key: a key of more than 64 octets is replaced by its digest, and what lacks is zeros.
+pub fn block_key(key: &[u8]) -> [u8; 64]
+    ensures { result ≡ block_of key.now }
+{
+    if key.len() > BLOCK_LEN {
+        filled(&Sha256::digest(key))
+    } else {
+        filled(key)
+    }
+}
+
+fn filled(key: &[u8]) -> [u8; 64]
+    requires { length key.now ≤ 64 }
+    ensures { result ≡ filled key.now }
+{
+    let mut block = [0; BLOCK_LEN];
+    put(&mut block, 0, key);
+    block
+}
+
+fn padded(block: &[u8; 64], octet: u8) -> [u8; 64]
+    ensures { result ≡ pad octet block.now }
+{
+    let mut out = *block;
+    for i in 0..BLOCK_LEN {
+        out[i] ^= octet;
+    }
+    out
+}
+
+fn first_half(digest: &[u8; 32]) -> [u8; 16]
+    ensures { result ≡ take 16 digest.now }
+{
+    let mut half = [0; 16];
+    half.copy_from_slice(&digest[..16]);
+    half
+}
+
+/// The first 16 octets of the HMAC, under a key in its block form, of `first` followed by `second`.
+#[tactic(auto, unfolding(crate::specs::Hmac::mac128_of, crate::specs::Hmac::hmac))]
+pub fn mac128(block: &[u8; 64], first: &[u8], second: &[u8]) -> [u8; 16]
+    ensures { result ≡ mac128_of block.now (first.now ++ second.now) }
+{
+    let mut inner = Sha256::new_with_prefix(padded(block, INNER_PAD));
+    inner.update(first);
+    inner.update(second);
+    let mut outer = Sha256::new_with_prefix(padded(block, OUTER_PAD));
+    outer.update(inner.finalize());
+    first_half(&outer.finalize())
+}
+
+#[cfg(test)]
+mod tests {
+    use super::*;
+    use std::process::Abort;
+
+    fn check(rt: &impl Abort, key: &[u8], text: &[u8], want: [u8; 16]) {
+        assert_eq!(rt; mac128(&block_key(key), text, b""), want);
+        assert_eq!(rt; mac128(&block_key(key), b"", text), want);
+    }
+
+    /// RFC 4231, section 4.2.
+    #[test]
+    fn a_short_key_is_filled_with_zeros(rt: HostRuntime) {
+        check(
+            &rt,
+            &[0x0B; 20],
+            b"Hi There",
+            [
+                0xb0, 0x34, 0x4c, 0x61, 0xd8, 0xdb, 0x38, 0x53, 0x5c, 0xa8, 0xaf, 0xce, 0xaf, 0x0b,
+                0xf1, 0x2b,
+            ],
+        );
+    }
+
+    /// RFC 4231, section 4.3.
+    #[test]
+    fn a_key_may_be_shorter_than_a_digest(rt: HostRuntime) {
+        check(
+            &rt,
+            b"Jefe",
+            b"what do ya want for nothing?",
+            [
+                0x5b, 0xdc, 0xc1, 0x46, 0xbf, 0x60, 0x75, 0x4e, 0x6a, 0x04, 0x24, 0x26, 0x08, 0x95,
+                0x75, 0xc7,
+            ],
+        );
+    }
+
+    /// RFC 4231, section 4.6.
+    #[test]
+    fn the_first_128_bits_are_kept(rt: HostRuntime) {
+        check(
+            &rt,
+            &[0x0C; 20],
+            b"Test With Truncation",
+            [
+                0xa3, 0xb6, 0x16, 0x74, 0x73, 0x10, 0x0e, 0xe0, 0x6e, 0x0c, 0x79, 0x6c, 0x29, 0x55,
+                0x55, 0x2b,
+            ],
+        );
+    }
+
+    /// RFC 4231, section 4.7.
+    #[test]
+    fn a_key_longer_than_a_block_is_hashed_first(rt: HostRuntime) {
+        check(
+            &rt,
+            &[0xAA; 131],
+            b"Test Using Larger Than Block-Size Key - Hash Key First",
+            [
+                0x60, 0xe4, 0x31, 0x59, 0x1e, 0xe0, 0xb6, 0x7f, 0x0d, 0x8a, 0x26, 0xaa, 0xcb, 0xf5,
+                0xb7, 0x7f,
+            ],
+        );
+    }
+}

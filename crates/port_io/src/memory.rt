@@ -1,0 +1,149 @@
+//! A source and a sink in memory. The numbers of the calls that fail are given, counted from 1.
+
+ghost use Rattle.std.specs.Prelude.{◌≡◌, ◌<◌, ◌≤◌, [], length, drop, take, Some, IfOk};
+ghost use Rattle.std.specs.Io.KnownBytes.{Appends};
+
+use crate::outside::{Failed, Sink, Source};
+use refl_types::Memory;
+use std::alloc::Global;
+use std::marker::Model;
+
+/// A source in memory.
+#[derive(Drop)]
+pub struct MemSource {
+    octets: Vec<u8>,
+    at: usize,
+    failing: Vec<u64>,
+    calls: u64,
+    faults: u64,
+}
+
+impl Model for MemSource {
+    ghost use Rattle.std.specs.Prelude.{◌≤◌, drop, vec_len};
+    ghost use Rattle.port_io.specs.Memory.{SourceState};
+
+    ghost Value = { SourceState };
+
+    ghost view = { λ s. record { left = drop s.at s.octets.items; failing = s.failing.items; calls = s.calls; faults = s.faults } };
+
+    ghost invariant = { λ s. s.at ≤ vec_len s.octets };
+}
+
+impl MemSource {
+    ghost use Rattle.port_io.specs.Memory.{SourceState};
+
+    /// A source of these octets. It takes no memory of its own.
+    pub fn make(_alloc: Global, octets: Vec<u8>, failing: Vec<u64>) -> Result<MemSource, Memory>
+        ensures { IfOk result (λ s. s ≡ record { left = octets.items; failing = failing.items; calls = 0; faults = 0 }) }
+    {
+        Ok(MemSource {
+            octets,
+            at: 0,
+            failing,
+            calls: 0,
+            faults: 0,
+        })
+    }
+}
+
+impl Source for MemSource {
+    ghost use Rattle.port_io.specs.Memory.{SourceState};
+
+    ghost left = { λ s. Some s.left };
+
+    ghost faults = { λ s. s.faults };
+
+    fn read(&mut self, buf: &mut [u8]) -> Result<usize, Failed> {
+        self.calls = self.calls.saturating_add(1);
+        if self.failing.contains(&self.calls) {
+            self.faults = self.faults.saturating_add(1);
+            return Err(Failed);
+        }
+        let count = copy_front(&self.octets[self.at..], buf);
+        self.at += count;
+        Ok(count)
+    }
+}
+
+/// Copies as many octets as there are and as there is room for.
+fn copy_front(octets: &[u8], buf: &mut [u8]) -> usize
+    ensures bound { result ≤ length buf.old }
+    ensures within { result ≤ length octets.now }
+    ensures front { take result buf.new ≡ take result octets.now }
+    ensures some { result ≡ 0 → 0 < length buf.old → octets.now ≡ [] }
+{
+    let count = buf.len().min(octets.len());
+    buf[..count].copy_from_slice(&octets[..count]);
+    count
+}
+
+/// A sink in memory with a fixed room.
+#[derive(Drop)]
+pub struct MemSink {
+    octets: Vec<u8>,
+    room: usize,
+    failing: Vec<u64>,
+    calls: u64,
+    faults: u64,
+}
+
+impl Model for MemSink {
+    ghost use Rattle.std.specs.Prelude.{◌≤◌, vec_len, vec_capacity};
+    ghost use Rattle.port_io.specs.Memory.{SinkState};
+
+    ghost Value = { SinkState };
+
+    ghost view = { λ s. record { written = s.octets.items; room = s.room; failing = s.failing.items; calls = s.calls; faults = s.faults } };
+
+    ghost invariant = { λ s. (vec_len s.octets ≤ s.room) × (s.room ≤ vec_capacity s.octets) };
+}
+
+impl MemSink {
+    ghost use Rattle.port_io.specs.Memory.{SinkState};
+
+    /// A sink with room for as many octets, which is taken now.
+    pub fn make(alloc: Global, room: usize, failing: Vec<u64>) -> Result<MemSink, Memory>
+        ensures { IfOk result (λ s. s ≡ record { written = []; room = room; failing = failing.items; calls = 0; faults = 0 }) }
+    {
+        match Vec::with_capacity(alloc, room) {
+            Ok(octets) => Ok(MemSink {
+                octets,
+                room,
+                failing,
+                calls: 0,
+                faults: 0,
+            }),
+            Err(_) => Err(Memory),
+        }
+    }
+
+    /// The octets that were written.
+    pub fn written(&self) -> &[u8]
+        ensures { result.now ≡ self.now.written }
+    {
+        &self.octets
+    }
+}
+
+impl Sink for MemSink {
+    ghost use Rattle.port_io.specs.Memory.{SinkState};
+
+    ghost written = { λ s. Some s.written };
+
+    ghost faults = { λ s. s.faults };
+
+    fn write(&mut self, octets: &[u8]) -> Result<usize, Failed> {
+        self.calls = self.calls.saturating_add(1);
+        if octets.len() > self.room - self.octets.len() || self.failing.contains(&self.calls) {
+            self.faults = self.faults.saturating_add(1);
+            return Err(Failed);
+        }
+        match self.octets.extend_from_slice(octets) {
+            Ok(()) => Ok(octets.len()),
+            Err(_) => {
+                self.faults = self.faults.saturating_add(1);
+                Err(Failed)
+            }
+        }
+    }
+}

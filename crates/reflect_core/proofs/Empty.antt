@@ -1,0 +1,36 @@
+-- A tail without octets has a reply without octets.
+use Rattle.std.proofs.Common.{◌≡◌, ℕ, ◌+◌, ◌<◌, ◌∙◌, Option, Some, None, List, [], ◌∷◌, ◌++◌, length, refl, sym, ap, arith}
+use Rattle.refl_types.specs.declared.types.Mode.{Mode}
+use Rattle.refl_types.specs.declared.types.Mode.TheVariants.{Plain, Auth, Twamp}
+use Rattle.refl_types.specs.declared.config.ConfigParts.{ConfigParts}
+use Rattle.tlv_chain.specs.Split.{Split, split, named_length}
+use Rattle.tlv_chain.proofs.SplitFacts.{split_none, no_whole}
+use Rattle.tlv_integrity.specs.declared.integrity.Integrity.{Integrity}
+use Rattle.tlv_integrity.specs.declared.integrity.Integrity.TheVariants.{Absent, Passed, Failed}
+use Rattle.tlv_integrity.specs.Integrity.{integrity, integrity_under, integrity_of}
+use Rattle.reflect_core.specs.Tail.{reply_by, tail_reply}
+
+split_empty : split [] ≡ record { tlvs = []; rest = [] }
+split_empty = split_none [] (no_whole [] (omega arith))
+
+of_empty : (mode : Mode) (block sequence : List ℕ) → (let s : Split = record { tlvs = []; rest = [] } in integrity_of mode block sequence [] s) ≡ Absent
+of_empty Plain block sequence = refl
+of_empty Auth block sequence = refl
+of_empty Twamp block sequence = refl
+
+under_empty : (mode : Mode) (key : Option (List ℕ)) (sequence : List ℕ) → integrity_under mode key sequence [] ≡ Absent
+under_empty mode None sequence = refl
+under_empty mode (Some block) sequence = ap (integrity_of mode block sequence []) split_empty ∙ of_empty mode block sequence
+
+integrity_empty : (mode : Mode) (c : ConfigParts) (sequence : List ℕ) → integrity mode c sequence [] ≡ Absent
+unfolding integrity
+integrity_empty mode c sequence = under_empty mode c.key sequence
+
+pub tail_reply-nil : (mode : Mode) (c : ConfigParts) (n : ℕ) (asked answered : List ℕ) → tail_reply mode c n asked answered [] ≡ []
+unfolding tail_reply
+tail_reply-nil mode c n asked answered =
+    ap (λ (i : Integrity). reply_by i c n answered (split [])) (integrity_empty mode c asked) ∙ ap (λ (s : Split). reply_by Absent c n answered s) split_empty
+
+pub tail_by : (mode : Mode) (c : ConfigParts) (n : ℕ) (asked answered tail : List ℕ) (i : Integrity) → i ≡ integrity mode c asked tail → reply_by i c n answered (split tail) ≡ tail_reply mode c n asked answered tail
+unfolding tail_reply
+tail_by mode c n asked answered tail i e = ap (λ (j : Integrity). reply_by j c n answered (split tail)) e

@@ -1,0 +1,59 @@
+-- The reply of each mode.
+use Rattle.std.proofs.Common.{◌≡◌, ℕ, ◌≤◌, ◌<◌, ◌∙◌, Bool, true, false, if◌then◌else◌, nat_lt, ltb, Result, Ok, Err, Option, Some, None, List, [], ◌∷◌, ◌++◌, length, drop, refl, sym, ap, arith}
+use Rattle.std.proofs.lemmas.Bool.Decides.{nat_tests}
+use Rattle.octet_format.proofs.Fields.{length_written}
+use Rattle.refl_types.specs.declared.types.Mode.{Mode}
+use Rattle.refl_types.specs.declared.types.Mode.TheVariants.{Plain, Auth, Twamp}
+use Rattle.refl_types.specs.declared.types.Extra.{Extra}
+use Rattle.refl_types.specs.declared.types.Meta.{Meta}
+use Rattle.refl_types.specs.declared.config.ConfigParts.{ConfigParts}
+use Rattle.refl_types.specs.Spelling.{block_octets}
+use Rattle.stamp_packet.specs.declared.fields.SenderBase.{SenderBase}
+use Rattle.stamp_packet.specs.declared.fields.ReplyBase.{ReplyBase}
+use Rattle.stamp_packet.specs.declared.fields.Short.{Short}
+use Rattle.stamp_packet.specs.Plain.{read_of, sender_of}
+use Rattle.stamp_auth.specs.Request.{auth_sender_of}
+use Rattle.twamp_test.specs.Request.{test_sender_of}
+use Rattle.twamp_test.specs.Reply.{test_reply}
+use Rattle.reflect_core.specs.declared.reflecting.Reply.{Reply}
+use Rattle.reflect_core.specs.Base.{reply_base}
+use Rattle.reflect_core.specs.Reflection.{Reflected, IsReply, plain_octets, auth_octets, reflected_octets}
+
+-- ---- what was read
+
+ok_of : (b : Bool) (x : Short) (y s : SenderBase) → b ≡ false → (let r : Result SenderBase Short = if b then Err x else Ok y in r) ≡ Ok s → s ≡ y
+ok_of true x y s n e = absurd cc
+ok_of false x y s n e = let f : ◌≡◌ {A = Result SenderBase Short} (Ok y) (Ok s) = e in cc
+
+not_less : (a b : ℕ) → b ≤ a → ltb a b ≡ false
+not_less a b le = grind (arith, nat_tests)
+
+pub read_ok : (octets : List ℕ) (s : SenderBase) → 44 ≤ length octets → read_of octets ≡ Ok s → s ≡ sender_of octets
+read_ok octets s le e = ok_of (ltb (length octets) 44) (record {}) (sender_of octets) s (not_less (length octets) 44 le) e
+
+-- ---- the fields of a reply
+
+pub base_is : (p c : ConfigParts) (n : ℕ) (d : Meta) (t3 : ℕ) (s s' : SenderBase) (base : ReplyBase) → base ≡ reply_base p n d t3 s → p ≡ c → s ≡ s' → base ≡ reply_base c n d t3 s'
+base_is p c n d t3 s s' base e same sender = e ∙ ap (λ (q : ConfigParts). reply_base q n d t3 s) same ∙ ap (reply_base c n d t3) sender
+
+pub block_is : (key : Option (List ℕ)) (block : List ℕ) → key ≡ Some block → block ≡ block_octets key
+block_is key block e = sym (ap block_octets e)
+
+-- ---- the octets by mode
+
+pub plain_is : (mode : Mode) (x : Extra) (c : ConfigParts) (n : ℕ) (d : Meta) (t3 : ℕ) (octets : List ℕ) → mode ≡ Plain → plain_octets c n (reply_base c n d t3 (sender_of octets)) octets ≡ reflected_octets mode x c n d t3 octets
+unfolding reflected_octets
+plain_is mode x c n d t3 octets e = rw e refl
+
+pub auth_is : (mode : Mode) (x : Extra) (c : ConfigParts) (n : ℕ) (d : Meta) (t3 : ℕ) (octets : List ℕ) → mode ≡ Auth → auth_octets c n (reply_base c n d t3 (auth_sender_of octets)) octets ≡ reflected_octets mode x c n d t3 octets
+unfolding reflected_octets
+auth_is mode x c n d t3 octets e = rw e refl
+
+pub test_is : (mode : Mode) (x : Extra) (c : ConfigParts) (n : ℕ) (d : Meta) (t3 : ℕ) (octets : List ℕ) → mode ≡ Twamp → test_reply x (reply_base c n d t3 (test_sender_of octets)) octets ≡ reflected_octets mode x c n d t3 octets
+unfolding reflected_octets
+test_is mode x c n d t3 octets e = rw e refl
+
+pub replied : (r : Reflected) (reply : Reply) (old new out octets : List ℕ) (len : ℕ) → reply.from ≡ r.from → reply.to ≡ r.to → new ≡ out → reply.len ≡ len → out ≡ octets ++ drop len old → octets ≡ r.octets → length new ≡ length old → reply.len ≤ length old → IsReply r reply old new
+replied r reply old new out octets len from to same end_ e is kept le =
+    let all : new ≡ r.octets ++ drop reply.len old = same ∙ e ∙ ap (λ (x : List ℕ). x ++ drop len old) is ∙ ap (λ (n : ℕ). r.octets ++ drop n old) (sym end_) in
+    record { from = from; to = to; len = sym (length_written r.octets old new reply.len all kept le); octets = all }

@@ -1,0 +1,94 @@
+-- What a pass over the TLVs of a tail keeps: what was written, with the reply of what is left, is the whole reply.
+use Rattle.std.proofs.Common.{◌≡◌, ℕ, ◌+◌, ◌-◌, ◌≤◌, ◌∙◌, Bool, true, false, if◌then◌else◌, List, [], ◌∷◌, ◌++◌, length, take, drop, refl, sym, ap, subst, append_assoc, arith}
+use Rattle.std.proofs.lemmas.List.{take_at, drop_at, length-append, length-drop, length-take-le}
+use Rattle.octet_format.specs.Octets.{IsBytes}
+use Rattle.octet_format.proofs.Obeys.{IsBytes-drop}
+use Rattle.refl_types.specs.declared.config.ConfigParts.{ConfigParts}
+use Rattle.tlv_chain.specs.declared.span.Span.{Span}
+use Rattle.tlv_chain.specs.Tlv.{Tlv, tlv_octets, tlvs_octets}
+use Rattle.tlv_chain.specs.Split.{Split, split, add_first}
+use Rattle.tlv_chain.specs.Walking.{Walking, IsAtRest, WentPast, tlv_at}
+use Rattle.tlv_chain.proofs.SplitFacts.{split_is}
+use Rattle.tlv_chain.proofs.Walks.{Step, step_of, rest_of, past}
+use Rattle.tlv_actions.specs.declared.reply.Acted.{Acted}
+use Rattle.tlv_actions.specs.declared.reply.Acted.TheVariants.{Done, Malformed}
+use Rattle.tlv_actions.specs.Rows.{WritesTlv, reply_tlv, is_malformed, acted_on}
+use Rattle.reflect_core.specs.Tail.{failed_reply, flagged, processed_reply, processed, with_flags}
+
+-- the reply of a split is whole
+pub record IsUnderWay (whole : Split → List ℕ) (tail : List ℕ) (w : Walking) (out : List ℕ) : Type 0 where
+  pub of : w.tail ≡ tail
+  pub within : w.at ≤ length tail
+  pub room : length out ≡ length tail
+  pub so_far : take w.at out ++ whole (split (drop w.at tail)) ≡ whole (split tail)
+
+pub begun : (whole : Split → List ℕ) (tail out : List ℕ) → length out ≡ length tail → let w : Walking = record { tail = tail; at = 0 } in IsUnderWay whole tail w out
+begun whole tail out room = record { of = refl; within = omega arith; room = room; so_far = refl }
+
+-- the front up to the place past a TLV that was written
+front_past : (old new : List ℕ) (s : Span) (t : Tlv) (n : ℕ) → WritesTlv old s t new → length new ≡ n → length old ≡ n → past s ≤ n → take (past s) new ≡ take s.at old ++ tlv_octets t
+front_past old new s t n writes ln lo le =
+    let front = take s.at old ++ tlv_octets t in
+    let len : length front ≡ past s = omega (arith, ap length writes.octets, length-append front (drop (past s) old), length-drop (past s) old, ln, lo) in
+    ap (take (past s)) writes.octets ∙ take_at front (drop (past s) old) (past s) len
+
+-- a TLV was written, and the pass goes on
+pub goes_on : (whole : Split → List ℕ) (tail : List ℕ) (old : Walking) (s : Span) (new : Walking) (out out' : List ℕ) (t : Tlv) → IsUnderWay whole tail old out → WentPast old s new → WritesTlv out s t out' → length out' ≡ length out → ((rest : Split) → whole (add_first (tlv_at tail s) rest) ≡ tlv_octets t ++ whole rest) → IsUnderWay whole tail new out'
+goes_on whole tail old s new out out' t way went writes same next =
+    let step = step_of tail old s new way.of went in
+    let to : new.at ≡ past s = omega (arith, went.to, went.from) in
+    let left = split (drop (past s) tail) in
+    let here : take s.at out ++ whole (split (drop s.at tail)) ≡ whole (split tail) = subst (λ (n : ℕ). take n out ++ whole (split (drop n tail)) ≡ whole (split tail)) (sym went.from) way.so_far in
+    let front : take (past s) out' ≡ take s.at out ++ tlv_octets t = front_past out out' s t (length tail) writes (same ∙ way.room) way.room step.within in
+    let there : take (past s) out' ++ whole left ≡ whole (split tail) =
+    ap (λ (x : List ℕ). x ++ whole left) front
+    ∙ append_assoc (take s.at out) (tlv_octets t) (whole left)
+    ∙ ap (λ (x : List ℕ). take s.at out ++ x) (sym (ap whole step.split ∙ next left))
+    ∙ here in
+    record {
+      of = went.tail ∙ way.of;
+      within = omega (arith, to, step.within);
+      room = same ∙ way.room;
+      so_far = subst (λ (n : ℕ). take n out' ++ whole (split (drop n tail)) ≡ whole (split tail)) (sym to) there;
+    }
+
+-- the rest was written, and the reply is whole
+pub ended : (whole : Split → List ℕ) (tail : List ℕ) (old new : Walking) (out out' rest : List ℕ) → IsUnderWay whole tail old out → IsAtRest old new → out' ≡ take new.at out ++ rest → rest ≡ whole (record { tlvs = []; rest = drop new.at tail }) → out' ≡ whole (split tail)
+ended whole tail old new out out' rest way stay e last =
+    let none = rest_of tail old new way.of stay in
+    let at : old.at ≡ new.at = ap (λ (w : Walking). w.at) (sym stay.same) in
+    let here : take new.at out ++ whole (split (drop new.at tail)) ≡ whole (split tail) = subst (λ (n : ℕ). take n out ++ whole (split (drop n tail)) ≡ whole (split tail)) at way.so_far in
+    e ∙ ap (λ (x : List ℕ). take new.at out ++ x) (last ∙ ap whole (sym none)) ∙ here
+
+-- a malformed TLV was written, and all after it as received
+pub stopped : (whole : Split → List ℕ) (tail : List ℕ) (old : Walking) (s : Span) (new : Walking) (out out' out'' : List ℕ) (t : Tlv) → IsBytes tail → IsUnderWay whole tail old out → WentPast old s new → WritesTlv out s t out' → length out' ≡ length out → ((rest : Split) → whole (add_first (tlv_at tail s) rest) ≡ tlv_octets t ++ (tlvs_octets rest.tlvs ++ rest.rest)) → out'' ≡ take (past s) out' ++ drop (past s) tail → out'' ≡ whole (split tail)
+stopped whole tail old s new out out' out'' t bytes way went writes same next e =
+    let step = step_of tail old s new way.of went in
+    let left = split (drop (past s) tail) in
+    let here : take s.at out ++ whole (split (drop s.at tail)) ≡ whole (split tail) = subst (λ (n : ℕ). take n out ++ whole (split (drop n tail)) ≡ whole (split tail)) (sym went.from) way.so_far in
+    let front : take (past s) out' ≡ take s.at out ++ tlv_octets t = front_past out out' s t (length tail) writes (same ∙ way.room) way.room step.within in
+    let later : drop (past s) tail ≡ tlvs_octets left.tlvs ++ left.rest = (split_is (drop (past s) tail) (IsBytes-drop (past s) tail bytes)).parts in
+    e
+    ∙ ap (λ (x : List ℕ). x ++ drop (past s) tail) front
+    ∙ append_assoc (take s.at out) (tlv_octets t) (drop (past s) tail)
+    ∙ ap (λ (x : List ℕ). take s.at out ++ (tlv_octets t ++ x)) later
+    ∙ ap (λ (x : List ℕ). take s.at out ++ x) (sym (ap whole step.split ∙ next left))
+    ∙ here
+
+-- ---- the two passes
+
+pub flags_first : (tail : List ℕ) (s : Span) (rest : Split) → failed_reply (add_first (tlv_at tail s) rest) ≡ tlv_octets (flagged (tlv_at tail s)) ++ failed_reply rest
+flags_first tail s rest = append_assoc (tlv_octets (flagged (tlv_at tail s))) _ _
+
+pub processes_first : (c : ConfigParts) (n : ℕ) (t : Tlv) (rest : Split) → is_malformed c t ≡ false → processed_reply c n (add_first t rest) ≡ tlv_octets (reply_tlv c n t) ++ processed_reply c n rest
+processes_first c n t rest e = rw e refl
+
+pub stops_first : (c : ConfigParts) (n : ℕ) (t : Tlv) (rest : Split) → is_malformed c t ≡ true → processed_reply c n (add_first t rest) ≡ tlv_octets (reply_tlv c n t) ++ (tlvs_octets rest.tlvs ++ rest.rest)
+stops_first c n t rest e = rw e refl
+
+malformed_if : (b : Bool) → (if b then Malformed else Done) ≡ Malformed → b ≡ true
+malformed_if true e = refl
+malformed_if false e = absurd cc
+
+pub malformed_is : (c : ConfigParts) (t : Tlv) (acted : Acted) → acted ≡ acted_on c t → acted ≡ Malformed → is_malformed c t ≡ true
+malformed_is c t acted e f = malformed_if (is_malformed c t) (sym e ∙ f)

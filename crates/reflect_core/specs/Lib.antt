@@ -1,0 +1,4 @@
+pub mod Judgement
+pub mod Base
+pub mod Tail
+pub mod Reflection

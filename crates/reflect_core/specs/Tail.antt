@@ -1,0 +1,60 @@
+-- The tail of a reply (RFC 8972, section 4). What follows a malformed TLV, what becomes of a rest, and the flags after
+-- a failed integrity are this project's own.
+use Rattle.std.specs.Prelude.{ℕ, nat_lt, if◌then◌else◌, List, [], ◌∷◌, ◌++◌, length, drop, get_or, bit_or}
+use Rattle.std.specs.Int.{w32, to_be_bytes}
+use Rattle.octet_format.specs.Octets.{field}
+use Rattle.refl_types.specs.declared.types.Mode.{Mode}
+use Rattle.refl_types.specs.declared.config.ConfigParts.{ConfigParts}
+use Rattle.refl_types.specs.Spelling.{block_octets}
+use Rattle.tlv_chain.specs.Tlv.{Tlv, tlv_octets, tlvs_octets, unrecognized, malformed, integrity_failed}
+use Rattle.tlv_chain.specs.Split.{Split, split}
+use Rattle.tlv_actions.specs.Rows.{is_understood, is_malformed, reply_tlv}
+use Rattle.tlv_integrity.specs.declared.integrity.Integrity.{Integrity}
+use Rattle.tlv_integrity.specs.declared.integrity.Integrity.TheVariants.{Absent, Passed, Failed}
+use Rattle.tlv_integrity.specs.Integrity.{integrity}
+use Rattle.tlv_integrity.specs.Sealing.{sealed}
+
+-- a rest of four octets or more begins with flags
+abbrev pub with_flags : ℕ → List ℕ → List ℕ
+with_flags flags rest = if nat_lt (length rest) 4 then rest else flags ∷ drop 1 rest
+
+-- ---- where the integrity failed: as received, with the I flag everywhere
+
+abbrev pub flagged : Tlv → Tlv
+flagged t = record t { flags = bit_or t.flags integrity_failed }
+
+abbrev pub flagged_octets : List Tlv → List ℕ
+flagged_octets [] = []
+flagged_octets (t ∷ ts) = tlv_octets (flagged t) ++ flagged_octets ts
+
+abbrev pub failed_reply : Split → List ℕ
+failed_reply s = flagged_octets s.tlvs ++ with_flags (bit_or (get_or s.rest 0 0) integrity_failed) s.rest
+
+-- ---- where it didn't: each TLV by its type, until a malformed one; later octets as received
+
+-- the flags of a header whose length passes the end
+abbrev pub rest_flags : ConfigParts → List ℕ → ℕ
+rest_flags c rest = if is_understood c (get_or rest 1 0) then malformed else bit_or malformed unrecognized
+
+abbrev pub processed : ConfigParts → ℕ → List Tlv → List ℕ → List ℕ
+processed c n [] rest = with_flags (rest_flags c rest) rest
+processed c n (t ∷ ts) rest =
+    tlv_octets (reply_tlv c n t) ++ (if is_malformed c t then tlvs_octets ts ++ rest else processed c n ts rest)
+
+abbrev pub processed_reply : ConfigParts → ℕ → Split → List ℕ
+processed_reply c n s = processed c n s.tlvs s.rest
+
+-- ---- the tail of a reply
+
+abbrev pub reply_by : Integrity → ConfigParts → ℕ → List ℕ → Split → List ℕ
+reply_by Failed c n answered s = failed_reply s
+reply_by Absent c n answered s = processed_reply c n s
+reply_by (Passed at) c n answered s = sealed (block_octets c.key) answered at (processed_reply c n s)
+
+-- asked and answered are the octets of the Sequence Numbers of the request and of the reply
+unfoldable pub tail_reply : Mode → ConfigParts → ℕ → List ℕ → List ℕ → List ℕ → List ℕ
+tail_reply mode c n asked answered tail = reply_by (integrity mode c asked tail) c n answered (split tail)
+
+-- the tail of the reply to a datagram whose base packet has as many octets, with a Sequence Number of the reply
+abbrev pub tail_after : ℕ → Mode → ConfigParts → ℕ → ℕ → List ℕ → List ℕ
+tail_after len mode c n sequence octets = tail_reply mode c n (field 0 4 octets) (to_be_bytes w32 sequence) (drop len octets)

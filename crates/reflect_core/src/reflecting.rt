@@ -1,0 +1,156 @@
+//! The reflection of a datagram (RFC 8762, section 4.3; RFC 5357, section 4.2).
+
+ghost use Rattle.std.specs.Prelude.{◌≡◌, Some, ◌≤◌, ◌++◌, IsSome, length, drop};
+ghost use Rattle.refl_types.specs.declared.types.Mode.TheVariants.{Twamp};
+ghost use Rattle.stamp_packet.specs.Plain.{sender_of};
+ghost use Rattle.stamp_auth.specs.Request.{auth_sender_of};
+ghost use Rattle.twamp_test.specs.Request.{test_sender_of};
+ghost use Rattle.twamp_test.specs.Reply.{test_reply};
+ghost use Rattle.reflect_core.specs.declared.judging.Judged.TheVariants.{Reflect};
+ghost use Rattle.reflect_core.specs.Judgement.{HasKey, judgement};
+ghost use Rattle.reflect_core.specs.Base.{reply_base};
+ghost use Rattle.reflect_core.specs.Reflection.{auth_octets, plain_octets, reflection, IsReply};
+
+use crate::base::reply_base;
+use crate::tails::write_tail_after;
+use refl_types::{Config, Endpoint, Extra, Key, Meta, Mode};
+use stamp_auth::{auth_sender, write_auth};
+use stamp_packet::{read_plain, write_plain};
+use twamp_test::{read_test, write_test};
+
+/// Octets of an unauthenticated base packet (RFC 8762, section 4.2.1).
+const PLAIN_LEN: usize = 44;
+
+/// Octets of an authenticated base packet (RFC 8762, section 4.2.2).
+const AUTH_LEN: usize = 112;
+
+/// Where a reply is sent, and how many octets of the buffer it has.
+#[derive(Clone, Copy, Debug, PartialEq, Eq)]
+pub struct Reply {
+    /// The number of the local address that sends it.
+    pub from: u16,
+    /// Whom it is sent to.
+    pub to: Endpoint,
+    /// Its length.
+    pub len: usize,
+}
+
+/// Writes the reply of an unauthenticated STAMP session.
+#[inline]
+fn reflect_plain(
+    config: &Config,
+    n: u32,
+    meta: &Meta,
+    t3: u64,
+    input: &[u8],
+    out: &mut [u8],
+) -> usize
+    requires judged { 44 ≤ length input.now }
+    requires room { length input.now ≤ length out.old }
+    ensures len { result ≡ length input.now }
+    ensures octets { out.new ≡ plain_octets config.now n (reply_base config.now n meta.now t3 (sender_of input.now)) input.now ++ drop result out.old }
+{
+    let sender = read_plain(input).unwrap();
+    let base = reply_base(config.as_parts(), n, meta, t3, &sender);
+    write_plain(&base, out);
+    write_tail_after(Mode::Plain, config, n, base.sequence, PLAIN_LEN, input, out);
+    input.len()
+}
+
+/// Writes the reply of an authenticated STAMP session, under its key in block form.
+fn reflect_auth(
+    block: &[u8; 64],
+    config: &Config,
+    n: u32,
+    meta: &Meta,
+    t3: u64,
+    input: &[u8],
+    out: &mut [u8],
+) -> usize
+    requires key { config.now.key ≡ Some block.now }
+    requires judged { 112 ≤ length input.now }
+    requires room { length input.now ≤ length out.old }
+    ensures len { result ≡ length input.now }
+    ensures octets { out.new ≡ auth_octets config.now n (reply_base config.now n meta.now t3 (auth_sender_of input.now)) input.now ++ drop result out.old }
+{
+    let sender = auth_sender(input);
+    let base = reply_base(config.as_parts(), n, meta, t3, &sender);
+    write_auth(block, &base, out);
+    write_tail_after(Mode::Auth, config, n, base.sequence, AUTH_LEN, input, out);
+    input.len()
+}
+
+/// Writes the reply of an authenticated STAMP session.
+fn reflect_auth_session(
+    config: &Config,
+    n: u32,
+    meta: &Meta,
+    t3: u64,
+    input: &[u8],
+    out: &mut [u8],
+) -> usize
+    requires key { IsSome config.now.key }
+    requires judged { 112 ≤ length input.now }
+    requires room { length input.now ≤ length out.old }
+    ensures len { result ≡ length input.now }
+    ensures octets { out.new ≡ auth_octets config.now n (reply_base config.now n meta.now t3 (auth_sender_of input.now)) input.now ++ drop result out.old }
+{
+    if let Some(block) = &config.as_parts().key {
+        reflect_auth(block, config, n, meta, t3, input, out);
+    }
+    input.len()
+}
+
+/// Writes the reply of a TWAMP-Test session.
+fn reflect_test(
+    extra: &Extra,
+    config: &Config,
+    n: u32,
+    meta: &Meta,
+    t3: u64,
+    input: &[u8],
+    out: &mut [u8],
+) -> usize
+    requires judged { 14 ≤ length input.now }
+    requires limit { length input.now ≤ 65507 }
+    requires room { 65536 ≤ length out.old }
+    ensures limit { result ≤ 65507 }
+    ensures octets { out.new ≡ test_reply extra.now (reply_base config.now n meta.now t3 (test_sender_of input.now)) input.now ++ drop result out.old }
+{
+    let sender = read_test(input).unwrap();
+    let base = reply_base(config.as_parts(), n, meta, t3, &sender);
+    write_test(extra, &base, input, out)
+}
+
+/// Writes the reply to a datagram that is to be reflected, with the number `n` that was drawn for it, modulo 2^32, and
+/// the moment `t3` of sending, in nanoseconds since the start of 1970. Octets of the buffer past the reply stay.
+#[inline]
+pub fn reflect(
+    key: &Key,
+    extra: &Extra,
+    config: &Config,
+    n: u32,
+    meta: &Meta,
+    t3: u64,
+    input: &[u8],
+    out: &mut [u8],
+) -> Reply
+    requires key { HasKey key.now.mode config.now }
+    requires judged { judgement key.now.mode config.now input.now ≡ Reflect }
+    requires limit { length input.now ≤ 65507 }
+    requires room { 65536 ≤ length out.old }
+    ensures reply { IsReply (reflection key.now extra.now config.now n meta.now t3 input.now) result out.old out.new }
+    ensures limit { result.len ≤ 65507 }
+    ensures size { (key.now.mode ≡ Twamp → ⊥) → result.len ≡ length input.now }
+{
+    let len = match key.mode {
+        Mode::Plain => reflect_plain(config, n, meta, t3, input, out),
+        Mode::Twamp => reflect_test(extra, config, n, meta, t3, input, out),
+        Mode::Auth => reflect_auth_session(config, n, meta, t3, input, out),
+    };
+    Reply {
+        from: meta.local,
+        to: meta.peer,
+        len,
+    }
+}

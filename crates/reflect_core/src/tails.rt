@@ -1,0 +1,170 @@
+//! The TLVs of a reply (RFC 8972, section 4), written in one pass.
+
+ghost use Rattle.std.specs.Prelude.{◌≡◌, ◌+◌, ◌≤◌, ◌++◌, length, take, drop, slice_index_or};
+ghost use Rattle.tlv_chain.specs.Split.{split};
+ghost use Rattle.reflect_core.specs.Tail.{failed_reply, processed_reply, tail_after, tail_reply, with_flags, rest_flags};
+
+use octet_format::{field4, put};
+use refl_types::{Config, Mode};
+use tlv_actions::{Acted, ReplyFacts, act, copy_tlv, is_understood};
+use tlv_chain::Walk;
+use tlv_integrity::{Integrity, check, seal};
+
+/// The U flag (RFC 8972, section 4).
+const UNRECOGNIZED: u8 = 0x80;
+
+/// The M flag.
+const MALFORMED: u8 = 0x40;
+
+/// The I flag.
+const INTEGRITY_FAILED: u8 = 0x20;
+
+/// Octets of the header of a TLV.
+const HEADER_LEN: usize = 4;
+
+/// The octet at a place, or 0 past the end.
+#[inline]
+fn octet_or_zero(octets: &[u8], at: usize) -> u8
+    ensures { result ≡ slice_index_or octets.now at 0 }
+{
+    if at < octets.len() { octets[at] } else { 0 }
+}
+
+/// Writes all octets from a place to the end.
+#[inline]
+fn put_last(rest: &[u8], at: usize, out: &mut [u8])
+    requires { at + length rest.now ≡ length out.old }
+    ensures { out.new ≡ take at out.old ++ rest.now }
+{
+    put(out, at, rest);
+}
+
+/// Writes the rest of a tail from a place to its end. Where it has a header, its flags are others.
+#[inline]
+fn write_rest(rest: &[u8], flags: u8, at: usize, out: &mut [u8])
+    requires { at + length rest.now ≡ length out.old }
+    ensures { out.new ≡ take at out.old ++ with_flags flags rest.now }
+{
+    put_last(rest, at, out);
+    if rest.len() >= HEADER_LEN {
+        out[at] = flags;
+    }
+}
+
+/// Writes a tail whose integrity failed: as received, with the I flag in each TLV.
+fn flag_all(tail: &[u8], out: &mut [u8])
+    requires { length out.old ≡ length tail.now }
+    ensures { out.new ≡ failed_reply (split tail.now) }
+{
+    let mut walk = Walk::new(tail);
+    while let Some(span) = walk.next() {
+        copy_tlv(tail, &span, span.flags | INTEGRITY_FAILED, out);
+    }
+    let (_, rest) = tail.split_at(walk.rest());
+    let flags = octet_or_zero(rest, 0) | INTEGRITY_FAILED;
+    write_rest(rest, flags, walk.rest(), out);
+}
+
+/// The flags of a rest that has a header.
+#[inline]
+fn rest_flags(config: &Config, rest: &[u8]) -> u8
+    ensures { result ≡ rest_flags config.now rest.now }
+{
+    if is_understood(config.as_parts(), octet_or_zero(rest, 1)) {
+        MALFORMED
+    } else {
+        MALFORMED | UNRECOGNIZED
+    }
+}
+
+/// Writes what the reply has for each TLV, up to a malformed one.
+fn process(config: &Config, n: u32, tail: &[u8], out: &mut [u8])
+    requires { length out.old ≡ length tail.now }
+    ensures { out.new ≡ processed_reply config.now n (split tail.now) }
+{
+    let facts = ReplyFacts { n };
+    let mut walk = Walk::new(tail);
+    while let Some(span) = walk.next() {
+        if let Acted::Malformed = act(config, &facts, tail, &span, out) {
+            let at = walk.rest();
+            let (_, later) = tail.split_at(at);
+            put_last(later, at, out);
+            return;
+        }
+    }
+    let (_, rest) = tail.split_at(walk.rest());
+    write_rest(rest, rest_flags(config, rest), walk.rest(), out);
+}
+
+/// Writes the tail of a reply, under the Sequence Numbers of the request and of the reply.
+pub fn write_tail(
+    mode: Mode,
+    config: &Config,
+    n: u32,
+    asked: &[u8; 4],
+    answered: &[u8; 4],
+    tail: &[u8],
+    out: &mut [u8],
+)
+    requires { length out.old ≡ length tail.now }
+    ensures { out.new ≡ tail_reply mode config.now n asked.now answered.now tail.now }
+{
+    match check(mode, config, asked, tail) {
+        Integrity::Failed => flag_all(tail, out),
+        Integrity::Absent => process(config, n, tail, out),
+        Integrity::Passed(at) => {
+            process(config, n, tail, out);
+            seal(config, answered, out, at);
+        }
+    }
+}
+
+/// Writes the tail of a reply after its base packet, which has as many octets as the request's.
+fn write_tail_at(
+    mode: Mode,
+    config: &Config,
+    n: u32,
+    sequence: u32,
+    at: usize,
+    input: &[u8],
+    out: &mut [u8],
+)
+    requires base { 4 ≤ at }
+    requires tail { at ≤ length input.now }
+    requires room { length input.now ≤ length out.old }
+    ensures { out.new ≡ take at out.old ++ tail_after at mode config.now n sequence input.now ++ drop (length input.now) out.old }
+{
+    let (_, tail) = input.split_at(at);
+    let asked = field4(input, 0);
+    let answered = sequence.to_be_bytes();
+    write_tail(
+        mode,
+        config,
+        n,
+        &asked,
+        &answered,
+        tail,
+        &mut out[at..input.len()],
+    );
+}
+
+/// Writes the tail of a reply after its base packet, if there is one.
+#[inline]
+pub fn write_tail_after(
+    mode: Mode,
+    config: &Config,
+    n: u32,
+    sequence: u32,
+    at: usize,
+    input: &[u8],
+    out: &mut [u8],
+)
+    requires base { 4 ≤ at }
+    requires tail { at ≤ length input.now }
+    requires room { length input.now ≤ length out.old }
+    ensures { out.new ≡ take at out.old ++ tail_after at mode config.now n sequence input.now ++ drop (length input.now) out.old }
+{
+    if input.len() > at {
+        write_tail_at(mode, config, n, sequence, at, input, out);
+    }
+}

@@ -1,0 +1,13 @@
+//! The records of a replay stream and their answers, in octets. The format is this project's own.
+#![tactic(auto)]
+
+mod answer;
+mod code;
+mod fields;
+mod record;
+
+pub use answer::{Outcome, REPLY_AT, frame_reply, write_outcome};
+pub use code::{
+    BAD_HMAC, DUPLICATE, FULL, MODE_CLASH, NO_KEY, NO_SESSION, NOT_SERVED, OPENED, SHORT,
+};
+pub use record::{Parsed, Record, one_record, read_record};

@@ -1,0 +1,118 @@
+//! A record is read from the front of a stream.
+
+ghost use Rattle.std.specs.Prelude.{◌≡◌, ◌++◌, List, ℕ, length, IfOk};
+ghost use Rattle.octet_format.specs.Reading.{Gives};
+ghost use Rattle.refl_types.specs.Configs.{IsConfig};
+ghost use Rattle.replay_format.specs.Records.{Item, Fits, spelling, datagram_of};
+ghost use Rattle.replay_format.specs.Reading.{datagram_at, opening_at, item_at};
+ghost use Rattle.replay_format.specs.View.{item_of, IsParsed, IsMeasured};
+
+use crate::fields::{body_len_at, config_parts_at, endpoint_at, extra_at, key_at, ttl_at};
+use octet_format::{Unread, octet_in, octets_at, u16_at, u64_at, zeros_at};
+use refl_types::{Config, ConfigParts, Extra, Key, Meta};
+
+/// A record of a stream.
+#[derive(Clone, Copy, Debug)]
+pub enum Record<'a> {
+    /// A session is opened.
+    Open {
+        key: Key,
+        extra: Extra,
+        config: Config,
+    },
+    /// A datagram arrives. Its reply leaves at `t3`, in nanoseconds since the start of 1970.
+    Datagram {
+        meta: Meta,
+        t3: u64,
+        octets: &'a [u8],
+    },
+}
+
+#[tactic(auto, unfolding(crate::specs::Reading::opening_at))]
+fn opening_at(octets: &[u8]) -> Result<(Key, Extra, ConfigParts, &[u8]), Unread>
+    ensures value { Gives (λ x. (record { key = x.0; extra = x.1; config = x.2 }, x.3.now)) result (opening_at octets.now) }
+    ensures sound { IfOk result (λ x. IsConfig x.2) }
+{
+    let rest = zeros_at(3, octets)?;
+    let (_, rest) = octet_in(103, 103, rest)?;
+    let (key, rest) = key_at(rest)?;
+    let (extra, rest) = extra_at(key.mode, rest)?;
+    let (config, rest) = config_parts_at(rest)?;
+    Ok((key, extra, config, rest))
+}
+
+#[tactic(auto, unfolding(crate::specs::Reading::datagram_at))]
+fn datagram_at(octets: &[u8]) -> Result<(Meta, u64, &[u8], &[u8]), Unread>
+    ensures value { Gives (λ x. (datagram_of x.0 x.1 x.2.now, x.3.now)) result (datagram_at octets.now) }
+    ensures measured { IfOk result (λ x. x.0.len ≡ length x.2.now) }
+{
+    let (len, rest) = body_len_at(octets)?;
+    let (local, rest) = u16_at(rest)?;
+    let (peer, rest) = endpoint_at(rest)?;
+    let (ttl, rest) = ttl_at(rest)?;
+    let (arrival, rest) = u64_at(rest)?;
+    let (t3, rest) = u64_at(rest)?;
+    let len = (len as usize).saturating_sub(39);
+    let (text, rest) = octets_at(len, rest)?;
+    Ok((
+        Meta {
+            local,
+            peer,
+            len,
+            ttl,
+            arrival,
+        },
+        t3,
+        text,
+        rest,
+    ))
+}
+
+#[tactic(auto, unfolding(crate::specs::Reading::item_at))]
+fn record_at(octets: &[u8]) -> Result<(Record, &[u8]), Unread>
+    ensures value { Gives (λ x. (item_of x.0, x.1.now)) result (item_at octets.now) }
+    ensures measured { IfOk result (λ x. IsMeasured x.0) }
+{
+    match octets {
+        [] => Err(Unread::More),
+        [1, rest @ ..] => {
+            let (key, extra, parts, rest) = opening_at(rest)?;
+            match Config::make(parts) {
+                Ok(config) => Ok((Record::Open { key, extra, config }, rest)),
+                Err(_) => unreachable!(),
+            }
+        }
+        [4, rest @ ..] => {
+            let (meta, t3, octets, rest) = datagram_at(rest)?;
+            Ok((Record::Datagram { meta, t3, octets }, rest))
+        }
+        [_, ..] => Err(Unread::Bad),
+    }
+}
+
+/// What stands at the front of octets.
+#[derive(Clone, Copy, Debug)]
+pub enum Parsed<'a> {
+    /// A record, and how many octets it has.
+    Record(Record<'a>, usize),
+    /// The octets are the front of a record, and lack its end.
+    More,
+    /// No record begins with them, whatever follows.
+    Bad,
+}
+
+/// Reads the record at the front.
+pub fn read_record(octets: &[u8]) -> Parsed
+    ensures { IsParsed result octets.now }
+{
+    match record_at(octets) {
+        Ok((record, rest)) => Parsed::Record(record, octets.len() - rest.len()),
+        Err(Unread::More) => Parsed::More,
+        Err(Unread::Bad) => Parsed::Bad,
+    }
+}
+
+/// A law: no record begins another, so a stream has one reading.
+pub fn one_record()
+    ensures { (a b : Item) (x y : List ℕ) → Fits a → Fits b → spelling a ++ x ≡ spelling b ++ y → (a ≡ b) × (x ≡ y) }
+{}

@@ -1,0 +1,4 @@
+pub mod Table
+pub mod Reflection
+pub mod Outcomes
+pub mod Stands

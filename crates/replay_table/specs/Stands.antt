@@ -1,0 +1,25 @@
+-- What the code keeps of a table stands for the table: its counts are those of the table modulo 2^32.
+use Rattle.std.specs.Prelude.{ℕ, ◌≡◌, ◌%◌, ◌^◌, List, [], ◌∷◌, ◌++◌, length, drop}
+use Rattle.replay_format.specs.Records.{Item}
+use Rattle.replay_format.specs.Answers.{answer_octets}
+use Rattle.replay_table.specs.declared.session.Session.{Session}
+use Rattle.replay_table.specs.Table.{Entry, Table}
+use Rattle.replay_table.specs.Outcomes.{answer, after}
+
+pub record StandsFor (s : Session) (e : Entry) : Type 0 where
+  pub key : s.key ≡ e.key
+  pub extra : s.extra ≡ e.extra
+  pub config : s.config ≡ e.config
+  pub count : s.count ≡ e.count % 2 ^ 32
+
+abbrev pub Stands : List Session → Table → Type 0
+Stands [] [] = Unit {0}
+Stands [] (e ∷ t) = ⊥
+Stands (s ∷ ss) [] = ⊥
+Stands (s ∷ ss) (e ∷ t) = StandsFor s e × Stands ss t
+
+-- the answer to a record was written at the front, n octets, and the table after it is kept
+pub record IsAnswered (t : Table) (new : List Session) (item : Item) (before written : List ℕ) (n : ℕ) : Type 0 where
+  pub octets : written ≡ answer_octets (answer t item) ++ drop n before
+  pub len : n ≡ length (answer_octets (answer t item))
+  pub stands : Stands new (after t item)

@@ -1,0 +1,211 @@
+//! The sessions of a replay.
+
+ghost use Rattle.std.specs.Prelude.{ℕ, ◌≡◌, ◌≢◌, ◌<◌, ◌≤◌, ◌==◌, ◌&&◌, ◌++◌, not, [], ◌∷◌, length, vec_len, vec_capacity, position, IfOk};
+ghost use Rattle.std.specs.List.{list_any};
+ghost use Rattle.refl_types.specs.Same.{same_endpoint, same_mode, same_key};
+ghost use Rattle.session_key.specs.Matching.{query_of, matches};
+ghost use Rattle.refl_types.specs.declared.types.Extra.{Extra};
+ghost use Rattle.replay_table.specs.Outcomes.{is_served, code_of, opening_code};
+ghost use Rattle.replay_format.specs.Records.{Opens, Arrives, datagram_of};
+ghost use Rattle.replay_table.specs.Table.{Table};
+ghost use Rattle.replay_table.specs.Stands.{Stands, IsAnswered};
+
+use crate::reply::{PLAIN_LEN, write_reflection};
+use crate::session::Session;
+use refl_types::{Clock, Config, Extra, Key, Memory, Meta, Mode};
+use replay_format::{
+    DUPLICATE, FULL, MODE_CLASH, NO_KEY, NO_SESSION, NOT_SERVED, OPENED, Outcome, Record, SHORT,
+    write_outcome,
+};
+use session_key::matches;
+use stamp_packet::read_plain;
+use std::alloc::Global;
+use std::marker::Model;
+
+/// How many sessions are kept at once.
+pub const SESSIONS: usize = 1024;
+
+/// Octets of the longest answer.
+pub const LONGEST_ANSWER: usize = 65_538;
+
+/// The sessions, in the order in which they were opened.
+#[derive(Drop)]
+pub struct Sessions {
+    list: Vec<Session>,
+}
+
+impl Model for Sessions {
+    ghost use Rattle.std.specs.Prelude.{◌≤◌, List, vec_len, vec_capacity};
+    ghost use Rattle.replay_table.specs.declared.session.Session.{Session};
+
+    ghost Value = { List Session };
+
+    ghost view = { λ s. s.list.items };
+
+    ghost invariant = { λ s. (vec_len s.list ≤ 1024) × (1024 ≤ vec_capacity s.list) };
+}
+
+#[tactic(auto, unfolding(refl_types::specs::Same::same_key))]
+fn same_key(a: &Key, b: &Key) -> bool
+    ensures { result ≡ same_key a.now b.now }
+{
+    a == b
+}
+
+fn is_bound(list: &[Session], key: &Key) -> bool
+    ensures { result ≡ list_any (λ s. same_key s.key key.now) list.now }
+{
+    list.iter().any(|session| same_key(&session.key, key))
+}
+
+/// Whether a key has the same ends as another, in another mode.
+fn clashes(a: &Key, b: &Key) -> bool
+    ensures { result ≡ (a.now.local == b.now.local && same_endpoint a.now.peer b.now.peer && not (same_mode a.now.mode b.now.mode)) }
+{
+    a.local == b.local && a.peer == b.peer && a.mode != b.mode
+}
+
+fn has_clash(list: &[Session], key: &Key) -> bool
+    ensures { result ≡ list_any (λ s. s.key.local == key.now.local && same_endpoint s.key.peer key.now.peer && not (same_mode s.key.mode key.now.mode)) list.now }
+{
+    list.iter().any(|session| clashes(&session.key, key))
+}
+
+/// The place of the session that a datagram matches.
+fn place_of(list: &[Session], meta: &Meta, octets: &[u8]) -> Option<usize>
+    ensures { result ≡ position (λ s. matches (query_of meta.now.local meta.now.peer octets.now) s.key) list.now }
+{
+    list.iter()
+        .position(|session| matches(meta, octets, &session.key))
+}
+
+/// Whether a session is served yet.
+#[tactic(auto, unfolding(crate::specs::Outcomes::is_served))]
+fn is_served(key: &Key, config: &Config) -> bool
+    ensures { (x : Extra) → result ≡ is_served (record { key = key.now; extra = x; config = config.now }) }
+{
+    let parts = config.as_parts();
+    matches!(key.mode, Mode::Plain)
+        && parts.stateful
+        && matches!(parts.clock, Clock::Ntp)
+        && parts.key.is_none()
+        && parts.tlvs == 0
+}
+
+/// The code of an opening, by what is known of its key.
+#[tactic(auto, unfolding(crate::specs::Outcomes::code_of))]
+fn code_of(bound: bool, clash: bool, count: usize, key: &Key, config: &Config) -> u8
+    ensures value { (x : Extra) → result ≡ code_of bound clash count (record { key = key.now; extra = x; config = config.now }) }
+    ensures room { result ≡ 0 → count ≢ 1024 }
+{
+    if !is_served(key, config) {
+        NOT_SERVED
+    } else if bound {
+        DUPLICATE
+    } else if clash {
+        MODE_CLASH
+    } else if matches!(key.mode, Mode::Auth) && config.as_parts().key.is_none() {
+        NO_KEY
+    } else if count == SESSIONS {
+        FULL
+    } else {
+        OPENED
+    }
+}
+
+/// The code that an opening is answered with.
+fn opening_code(list: &[Session], key: &Key, config: &Config) -> u8
+    ensures value { (x : Extra) (t : Table) → Stands list.now t → result ≡ opening_code t (record { key = key.now; extra = x; config = config.now }) }
+    ensures room { result ≡ 0 → length list.now ≢ 1024 }
+{
+    let bound = is_bound(list, key);
+    let clash = has_clash(list, key);
+    code_of(bound, clash, list.len(), key, config)
+}
+
+/// Keeps a session in a list that has room for it.
+fn keep(list: &mut Vec<Session>, session: Session)
+    requires len { vec_len list.old < 1024 }
+    requires room { 1024 ≤ vec_capacity list.old }
+    ensures items { list.new.items ≡ list.old.items ++ session ∷ [] }
+    ensures len { vec_len list.new ≤ 1024 }
+    ensures room { 1024 ≤ vec_capacity list.new }
+{
+    if list.push(session).is_err() {
+        unreachable!();
+    }
+}
+
+/// Answers a datagram.
+fn arrive(list: &mut [Session], meta: &Meta, t3: u64, octets: &[u8], out: &mut [u8]) -> usize
+    requires { 65538 ≤ length out.old }
+    ensures fits { result ≤ 65538 }
+    ensures answered { (t : Table) → Stands list.old t → IsAnswered t list.new (Arrives (datagram_of meta.now t3 octets.now)) out.old out.new result }
+{
+    let Some(place) = place_of(list, meta, octets) else {
+        return write_outcome(&Outcome::Unsent(NO_SESSION), out);
+    };
+    if octets.len() > PLAIN_LEN {
+        return write_outcome(&Outcome::Unsent(NOT_SERVED), out);
+    }
+    let Ok(request) = read_plain(octets) else {
+        return write_outcome(&Outcome::Unsent(SHORT), out);
+    };
+    let session = &mut list[place];
+    let len = write_reflection(session, meta, t3, &request, out);
+    session.count = session.count.wrapping_add(1);
+    len
+}
+
+/// Answers an opening. The list has room for all sessions.
+fn open(list: &mut Vec<Session>, key: &Key, extra: &Extra, config: &Config, out: &mut [u8]) -> usize
+    requires out { 65538 ≤ length out.old }
+    requires len { vec_len list.old ≤ 1024 }
+    requires room { 1024 ≤ vec_capacity list.old }
+    ensures answered { (t : Table) → Stands list.old.items t → IsAnswered t list.new.items (Opens (record { key = key.now; extra = extra.now; config = config.now })) out.old out.new result }
+    ensures fits { result ≤ 65538 }
+    ensures len { vec_len list.new ≤ 1024 }
+    ensures room { 1024 ≤ vec_capacity list.new }
+{
+    let code = opening_code(list, key, config);
+    if code != OPENED {
+        return write_outcome(&Outcome::Opened(code), out);
+    }
+    let session = Session {
+        key: *key,
+        extra: *extra,
+        config: *config,
+        count: 0,
+    };
+    keep(list, session);
+    write_outcome(&Outcome::Opened(code), out)
+}
+
+impl Sessions {
+    ghost use Rattle.replay_format.specs.View.{item_of};
+
+    /// No session, and room for as many as are kept.
+    pub fn make(alloc: Global) -> Result<Sessions, Memory>
+        ensures { IfOk result (λ s. s ≡ []) }
+    {
+        match Vec::with_capacity(alloc, SESSIONS) {
+            Ok(list) => Ok(Sessions { list }),
+            Err(_) => Err(Memory),
+        }
+    }
+
+    /// Writes the answer to a record at the front, says how many octets it has, and keeps the table that the record
+    /// leaves. Later octets stay.
+    pub fn answer(&mut self, record: &Record, out: &mut [u8]) -> usize
+        requires { 65538 ≤ length out.old }
+        ensures answered { (t : Table) → Stands self.old t → IsAnswered t self.new (item_of record.now) out.old out.new result }
+        ensures fits { result ≤ 65538 }
+    {
+        match record {
+            Record::Open { key, extra, config } => open(&mut self.list, key, extra, config, out),
+            Record::Datagram { meta, t3, octets } => {
+                arrive(&mut self.list, meta, *t3, octets, out)
+            }
+        }
+    }
+}

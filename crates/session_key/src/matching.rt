@@ -1,0 +1,69 @@
+//! Which datagrams are of which session (RFC 8972, section 3).
+
+ghost use Rattle.std.specs.Prelude.{◌≡◌, ◌<◌, ◌^◌};
+ghost use Rattle.session_key.specs.Matching.{ssid_at, query_of, matches};
+
+use refl_types::{Endpoint, Key, Meta, Mode};
+
+/// What of a datagram is compared with keys.
+#[derive(Clone, Copy, Debug, PartialEq, Eq)]
+pub struct Query {
+    /// The number of the local address at which it arrived.
+    pub local: u16,
+    /// Its sender.
+    pub peer: Endpoint,
+    /// The SSID of an unauthenticated packet: octets 14 and 15, where they are there.
+    pub plain: Option<u16>,
+    /// The SSID of an authenticated packet: octets 26 and 27, where they are there.
+    pub auth: Option<u16>,
+}
+
+/// The number in the two octets from a place on, where both are there.
+#[tactic(auto, unfolding(crate::specs::Matching::ssid_at))]
+fn ssid_at(at: usize, octets: &[u8]) -> Option<u16>
+    requires { at < 2 ^ 32 }
+    ensures { result ≡ ssid_at at octets.now }
+{
+    if octets.len() < at + 2 {
+        return None;
+    }
+    let ssid = &octets[at..at + 2];
+    Some(u16::from_be_bytes([ssid[0], ssid[1]]))
+}
+
+impl Query {
+    /// The query of a datagram.
+    #[tactic(auto, unfolding(crate::specs::Matching::query_of))]
+    pub fn of(meta: &Meta, octets: &[u8]) -> Query
+        ensures { result ≡ query_of meta.now.local meta.now.peer octets.now }
+    {
+        Query {
+            local: meta.local,
+            peer: meta.peer,
+            plain: ssid_at(14, octets),
+            auth: ssid_at(26, octets),
+        }
+    }
+
+    /// Whether the datagram is one of the session with this key.
+    #[tactic(auto, unfolding(crate::specs::Matching::matches))]
+    pub fn matches(&self, key: &Key) -> bool
+        ensures { result ≡ matches self.now key.now }
+    {
+        self.local == key.local
+            && self.peer == key.peer
+            && match key.mode {
+                Mode::Plain => self.plain == Some(key.ssid),
+                Mode::Auth => self.auth == Some(key.ssid),
+                Mode::Twamp => true,
+            }
+    }
+}
+
+/// Whether a datagram is one of the session with this key: its local number and its sender are the key's, and in the
+/// modes of STAMP its SSID is there and is the key's.
+pub fn matches(meta: &Meta, octets: &[u8], key: &Key) -> bool
+    ensures { result ≡ matches (query_of meta.now.local meta.now.peer octets.now) key.now }
+{
+    Query::of(meta, octets).matches(key)
+}

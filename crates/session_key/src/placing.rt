@@ -1,0 +1,35 @@
+//! Where the search for a session begins.
+
+ghost use Rattle.std.specs.Prelude.{◌≡◌, ◌<◌};
+ghost use Rattle.session_key.specs.Placing.{fnv_from, place_of};
+
+use crate::octets::{address_octets, family};
+use refl_types::Endpoint;
+
+const FNV_OFFSET: u64 = 14695981039346656037;
+
+const FNV_PRIME: u64 = 1099511628211;
+
+fn fnv_from(start: u64, octets: &[u8]) -> u64
+    ensures { result ≡ fnv_from start octets.now }
+{
+    let mut hash = start;
+    for octet in octets {
+        hash = (hash ^ u64::from(*octet)).wrapping_mul(FNV_PRIME);
+    }
+    hash
+}
+
+/// The slot at which the search for the sessions of two ends begins, of as many slots.
+pub fn place(local: u16, peer: &Endpoint, slots: u32) -> u32
+    requires { 0 < slots }
+    ensures value { result ≡ place_of local peer.now slots }
+    ensures range { result < slots }
+{
+    let (octets, _) = address_octets(&peer.address);
+    let mut hash = fnv_from(FNV_OFFSET, &local.to_be_bytes());
+    hash = fnv_from(hash, &[family(&peer.address)]);
+    hash = fnv_from(hash, &octets);
+    hash = fnv_from(hash, &peer.port.to_be_bytes());
+    (hash % u64::from(slots)) as u32
+}

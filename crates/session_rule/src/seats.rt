@@ -1,0 +1,42 @@
+//! The table and the seats.
+
+ghost use Rattle.std.specs.Prelude.{◌≡◌, ℕ, ◌<◌, ◌≤◌, true, []};
+ghost use Rattle.session_world.specs.Sizes.{IsWithinLimits};
+ghost use Rattle.session_world.specs.Words.{count_of_words};
+ghost use Rattle.session_rule.specs.Splitting.{SaysWhoIsSplit};
+
+use crate::view::{OneSchedule, View};
+use session_world::TableSize;
+use std::alloc::Global;
+
+/// The shared words.
+#[derive(Drop)]
+pub struct Table {
+    pub(crate) table: atomic_table::Table<(), View, TableSize, OneSchedule, Global>,
+    pub(crate) size: TableSize,
+    ghost sized: { size ≡ table.shared.key },
+    ghost wide: { table.shared.table_id.words ≡ count_of_words size },
+    ghost limits: { IsWithinLimits size },
+}
+
+/// The desk's list of steps, and the lists of the joined workers.
+#[derive(Drop)]
+pub struct Seat {
+    pub(crate) seat: atomic_table::Seat<(), View>,
+    pub(crate) split_off: [bool; 64],
+    ghost lives: { seat.me.0.alive ≡ true },
+    ghost desk: { seat.me.0.number ≡ 0 },
+    ghost empty: { seat.me.0.pending_worker ≡ 0 },
+    ghost told: { SaysWhoIsSplit seat.me.0.steps split_off },
+}
+
+/// A worker's number and its list of steps.
+#[derive(Drop)]
+pub struct WorkerSeat {
+    pub(crate) seat: atomic_table::Seat<(), View>,
+    pub(crate) number: u32,
+    ghost lives: { seat.me.0.alive ≡ true },
+    ghost numbered: { seat.me.0.number ≡ number },
+    ghost worker: { (0 < number) × (number ≤ 64) },
+    ghost bare: { seat.me.1 ≡ [] },
+}

@@ -1,0 +1,14 @@
+pub mod Keys
+pub mod Sizes
+pub mod Words
+pub mod Desk
+pub mod Worker
+pub mod Answers
+pub mod Allowed
+pub mod Runs
+pub mod History
+pub mod Explains
+pub mod Held
+pub mod Loads
+pub mod Refusals
+pub mod WholeRun

@@ -1,0 +1,21 @@
+//! The pure core of the session table: the atomic steps of the desk and of the workers, the schedules that run,
+//! and the one-thread table of sessions whose histories explain them.
+#![tactic(auto)]
+
+mod laws;
+#[cfg(test)]
+mod plain;
+mod refusals;
+mod steps;
+#[cfg(test)]
+mod tests;
+mod world;
+
+pub use laws::{law_draws, law_explained, law_held, law_one_match, law_whole_run, law_words};
+pub use refusals::{
+    law_expires_are_exact, law_looks_are_announced, law_no_false_miss, law_only_draws_change,
+    law_reuse,
+};
+pub use session_key::Query;
+pub use steps::{Actor, Part, Step, TableSize};
+pub use world::World;

@@ -1,0 +1,8 @@
+//! The authenticated base packets of STAMP, 112 octets (RFC 8762, sections 4.2.2, 4.3.2 and 4.4; RFC 8972, section 3).
+#![tactic(auto)]
+
+mod reading;
+mod writing;
+
+pub use reading::{AuthFault, auth_sender, read_auth};
+pub use writing::write_auth;

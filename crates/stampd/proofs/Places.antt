@@ -1,0 +1,44 @@
+-- The places of a buffer.
+use Rattle.std.proofs.Common.{◌≡◌, ℕ, ◌+◌, ◌-◌, ◌<◌, ◌≤◌, List, [], ◌∷◌, ◌++◌, length, take, drop, get_or, Option, Some, None, refl, sym, ap, ◌∙◌, append_assoc, arith}
+use Rattle.std.proofs.lemmas.List.{append-nil, take_at, drop_at, drop-take, drop-drop, length-append, length-take, length-drop, take-append-le}
+use Rattle.std.proofs.Math.Seq.{take-add, take-append-add}
+use Rattle.std.specs.Io.KnownBytes.{Appends, Consumes, Keeps, IsAtEnd}
+use Rattle.stampd.specs.Buffers.{between}
+
+-- ---- places
+
+pub between_advance : (items : List ℕ) (from to n : ℕ) → n ≤ length (between items from to) → between items (from + n) to ≡ drop n (between items from to)
+between_advance items from to n fits =
+    let m = to - from - n in
+    let enough : n ≤ to - from = omega (arith, length-take (to - from) (drop from items)) in
+    let a : to - from ≡ n + (to - (from + n)) = omega arith in
+    let e : drop n (between items from to) ≡ drop n (take (n + (to - (from + n))) (drop from items)) = ap (λ (k : ℕ). drop n (take k (drop from items))) a in
+    sym (e ∙ drop-take n (to - (from + n)) (drop from items) ∙ ap (take (to - (from + n))) (drop-drop n from items))
+
+pub between_more : (old new : List ℕ) (from to n : ℕ) (bytes : List ℕ) → from ≡ 0 → take (to + n) new ≡ take to old ++ bytes → between new from (to + n) ≡ between old from to ++ bytes
+between_more old new from to n bytes zero e =
+    let a : to + n - from ≡ to + n = omega arith in
+    let b : to - from ≡ to = omega arith in
+    rw (a, b, zero) e
+
+pub between_same : (old new : List ℕ) (from to : ℕ) → from ≡ 0 → take to new ≡ take to old → between new from to ≡ between old from to
+between_same old new from to zero e =
+    let b : to - from ≡ to = omega arith in
+    rw (b, zero) e
+
+pub take_front : (front buf post : List ℕ) (to n : ℕ) → length front ≡ to → n ≤ length buf → take (to + n) (front ++ (buf ++ post)) ≡ front ++ take n buf
+take_front front buf post to n len fits =
+    ap (λ (k : ℕ). take (k + n) (front ++ (buf ++ post))) (sym len) ∙ take-append-add front (buf ++ post) n ∙ ap (λ (r : List ℕ). front ++ r) (take-append-le n buf post fits)
+
+pub take_rest : (n : ℕ) (l : List ℕ) → take (length l - n) (drop n l) ≡ drop n l
+take_rest n l = ap (λ (k : ℕ). take k (drop n l)) (sym (length-drop n l)) ∙ take-all (drop n l)
+  where
+    take-all : (m : List ℕ) → take (length m) m ≡ m
+    take-all [] = refl
+    take-all (x ∷ m) = ap (λ (r : List ℕ). x ∷ r) (take-all m)
+
+-- a list of one element
+pub one_element : {A : Type 0} (ws : List A) (w : A) → 1 ≤ length ws → length ws < 2 → w ≡ get_or ws 0 w → ws ≡ w ∷ []
+one_element [] w some few e = absurd (omega arith)
+one_element (x ∷ []) w some few e = ap (λ y. y ∷ []) (sym e)
+one_element (x ∷ y ∷ ws) w some few e = absurd (omega arith)

@@ -1,0 +1,17 @@
+use Rattle.std.proofs.Common.{ℕ, ◌≤◌, List, length, ◌+◌, ◌-◌, ◌*◌, ◌^◌}
+use Rattle.replay_format.specs.Records.{Item}
+use Rattle.stampd.specs.Buffers.{pending, due}
+use Rattle.stampd.proofs.Going.{Going}
+use Rattle.stampd.proofs.offline.replay.Given as goal
+
+abbrev pub invariant-records : goal.invariant-records
+invariant-records g l = record {
+  going : (records : List Item) × Going (g.S.Source.left l.fn.input) (g.S.Source.left l.input) (g.K.Sink.written l.fn.out) (g.K.Sink.written l.out) l.sessions (pending l.ahead) (due l.outbox) l.passed records;
+  input : g.S.Source.faults l.fn.input ≤ g.S.Source.faults l.input;
+  out : g.K.Sink.faults l.fn.out ≤ g.K.Sink.faults l.out;
+  limit : l.passed + length (pending l.ahead) ≤ 2 ^ 30 + 524288;
+  passed : l.passed ≤ 2 ^ 30;
+}
+
+abbrev pub decreases-records : goal.decreases-records
+decreases-records g l = 2 * (2 ^ 30 + 524288 - (l.passed + length (pending l.ahead))) + length (pending l.ahead)

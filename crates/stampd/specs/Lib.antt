@@ -1,0 +1,3 @@
+pub mod Buffers
+pub mod Replay
+pub mod Command

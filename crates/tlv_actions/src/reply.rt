@@ -1,0 +1,98 @@
+//! The reply of one TLV.
+
+ghost use Rattle.std.specs.Prelude.{◌≡◌, ◌+◌, ◌≤◌, length};
+ghost use Rattle.tlv_chain.specs.Walking.{tlv_at};
+ghost use Rattle.tlv_actions.specs.Rows.{WritesTlv, tlv_of, reply_tlv, acted_on};
+
+use crate::rows::{
+    DIRECT_MEASUREMENT, TIMESTAMP_INFORMATION, has_valid_length, is_understood, measured,
+};
+use octet_format::{field4, put};
+use refl_types::{Config, ConfigParts};
+use tlv_chain::Span;
+
+/// Octets of the header of a TLV.
+const HEADER_LEN: usize = 4;
+
+/// The U flag (RFC 8972, section 4).
+const UNRECOGNIZED: u8 = 0x80;
+
+/// The M flag.
+const MALFORMED: u8 = 0x40;
+
+/// What is told of a reply besides its configuration.
+#[derive(Clone, Copy, Debug, PartialEq, Eq)]
+pub struct ReplyFacts {
+    /// The number that was drawn, modulo 2^32: how many replies were sent before.
+    pub n: u32,
+}
+
+/// Whether the TLVs after this one are processed.
+#[derive(Clone, Copy, Debug, PartialEq, Eq)]
+pub enum Acted {
+    Done,
+    /// Its type is supported, and its length is invalid for it. The sender is to blame.
+    Malformed,
+}
+
+/// Writes the TLV at a span with other flags and another value of the same length.
+#[inline]
+fn write(span: &Span, flags: u8, value: &[u8], out: &mut [u8])
+    requires len { length value.now ≡ span.now.len }
+    requires room { span.now.at + 4 + span.now.len ≤ length out.old }
+    ensures { WritesTlv out.old span.now (record { flags = flags; kind = span.now.kind; value = value.now }) out.new }
+{
+    let len = span.len.to_be_bytes();
+    put(out, span.at, &[flags, span.kind, len[0], len[1]]);
+    put(out, span.at + HEADER_LEN, value);
+}
+
+/// Writes what the reply has for the TLV of a value at a span.
+#[inline]
+fn answer(parts: &ConfigParts, n: u32, span: &Span, value: &[u8], out: &mut [u8]) -> Acted
+    requires len { length value.now ≡ span.now.len }
+    requires room { span.now.at + 4 + span.now.len ≤ length out.old }
+    ensures octets { WritesTlv out.old span.now (reply_tlv parts.now n (tlv_of span.now value.now)) out.new }
+    ensures acted { result ≡ acted_on parts.now (tlv_of span.now value.now) }
+{
+    if !is_understood(parts, span.kind) {
+        write(span, UNRECOGNIZED, value, out);
+        return Acted::Done;
+    }
+    if !has_valid_length(span.kind, span.len) {
+        write(span, MALFORMED, value, out);
+        return Acted::Malformed;
+    }
+    match span.kind {
+        TIMESTAMP_INFORMATION => write(span, 0, &parts.info, out),
+        DIRECT_MEASUREMENT => write(span, 0, &measured(n, &field4(value, 0)), out),
+        _ => write(span, 0, value, out),
+    }
+    Acted::Done
+}
+
+/// Writes the TLV of a tail at a span with other flags, and no other octet.
+#[inline]
+pub fn copy_tlv(tail: &[u8], span: &Span, flags: u8, out: &mut [u8])
+    requires whole { span.now.at + 4 + span.now.len ≤ length tail.now }
+    requires room { length out.old ≡ length tail.now }
+    ensures { WritesTlv out.old span.now (record (tlv_at tail.now span.now) { flags = flags }) out.new }
+{
+    let (_, from_value) = tail.split_at(span.at + HEADER_LEN);
+    let (value, _) = from_value.split_at(usize::from(span.len));
+    write(span, flags, value, out);
+}
+
+/// Writes what the reply has for the TLV of a tail at a span, and no other octet. Of an HMAC TLV it writes flags 0 and
+/// all else as received.
+#[inline]
+pub fn act(config: &Config, facts: &ReplyFacts, tail: &[u8], span: &Span, out: &mut [u8]) -> Acted
+    requires whole { span.now.at + 4 + span.now.len ≤ length tail.now }
+    requires room { length out.old ≡ length tail.now }
+    ensures octets { WritesTlv out.old span.now (reply_tlv config.now facts.now.n (tlv_at tail.now span.now)) out.new }
+    ensures acted { result ≡ acted_on config.now (tlv_at tail.now span.now) }
+{
+    let (_, from_value) = tail.split_at(span.at + HEADER_LEN);
+    let (value, _) = from_value.split_at(usize::from(span.len));
+    answer(config.as_parts(), facts.n, span, value, out)
+}

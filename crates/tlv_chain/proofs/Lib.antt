@@ -1,0 +1,3 @@
+pub mod SplitFacts
+pub mod Steps
+pub mod Walks

@@ -1,0 +1,3 @@
+pub mod Tlv
+pub mod Split
+pub mod Walking

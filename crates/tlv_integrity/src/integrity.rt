@@ -1,0 +1,84 @@
+//! The integrity of a tail. The rule is this project's own, after RFC 8972, section 4.8.
+
+ghost use Rattle.std.specs.Prelude.{◌≡◌, true, ◌+◌, ◌≤◌, length, drop};
+ghost use Rattle.tlv_integrity.specs.Integrity.{integrity, fits, without, IsPlaced};
+ghost use Rattle.tlv_integrity.specs.Heads.{heads, placed_at, rest_head};
+ghost use Rattle.tlv_chain.specs.Split.{split};
+
+use crate::heads::{First, all_padding, first_hmac, is_lone_padding, rest_head};
+use hmac_sha256::mac128;
+use octet_format::field16;
+use refl_types::{Config, Mode};
+use tlv_chain::Span;
+
+/// HMAC (RFC 8972, section 4.8).
+const HMAC: u8 = 8;
+
+/// Octets of an HMAC TLV before its value.
+const HEADER_LEN: usize = 4;
+
+/// Octets of its value.
+const MAC_LEN: u16 = 16;
+
+/// What is known of a tail.
+#[derive(Clone, Copy, Debug, PartialEq, Eq)]
+pub enum Integrity {
+    /// No HMAC TLV has to be there, and none is.
+    Absent,
+    /// The HMAC TLV at this place of the tail fits.
+    Passed(usize),
+    /// An HMAC TLV is missing, stands where it may not, or doesn't fit. The sender or the network is to blame.
+    Failed,
+}
+
+/// Whether the HMAC TLV at a span covers the tail and fits.
+fn fits(block: &[u8; 64], sequence: &[u8; 4], tail: &[u8], span: &Span) -> bool
+    requires { span.now.at + 4 + span.now.len ≤ length tail.now }
+    ensures len { result ≡ true → span.now.len ≡ 16 }
+    ensures value { result ≡ fits block.now sequence.now tail.now (placed_at tail.now span.now) (split (drop (span.now.at + 4 + span.now.len) tail.now)).rest }
+{
+    if span.len != MAC_LEN {
+        return false;
+    }
+    let (_, after) = tail.split_at(span.at + HEADER_LEN + usize::from(span.len));
+    if !all_padding(after) {
+        return false;
+    }
+    let (before, _) = tail.split_at(span.at);
+    field16(tail, span.at + HEADER_LEN) == mac128(block, sequence, before)
+}
+
+/// The integrity of a tail with no whole TLV of type 8, whose rest begins at a place.
+fn without(mode: Mode, tail: &[u8], at: usize) -> Integrity
+    requires { at ≤ length tail.now }
+    ensures { result ≡ without mode (rest_head (drop at tail.now)) (heads (split tail.now)) }
+{
+    let (_, rest) = tail.split_at(at);
+    if rest_head(rest) == Some(HMAC) {
+        return Integrity::Failed;
+    }
+    match mode {
+        Mode::Auth if !is_lone_padding(tail) => Integrity::Failed,
+        _ => Integrity::Absent,
+    }
+}
+
+/// The integrity of a tail, under the configuration's key and the request's Sequence Number.
+pub fn check(mode: Mode, config: &Config, sequence: &[u8; 4], tail: &[u8]) -> Integrity
+    ensures value { result ≡ integrity mode config.now sequence.now tail.now }
+    ensures place { IsPlaced result config.now (length tail.now) }
+{
+    let Some(block) = &config.as_parts().key else {
+        return Integrity::Absent;
+    };
+    match first_hmac(tail) {
+        First::Hmac(span) => {
+            if fits(block, sequence, tail, &span) {
+                Integrity::Passed(span.at)
+            } else {
+                Integrity::Failed
+            }
+        }
+        First::Rest(at) => without(mode, tail, at),
+    }
+}

@@ -1,0 +1,191 @@
+//! The packet of a session reflector (RFC 5357, section 4.2.1; RFC 6038, sections 4 and 5).
+
+ghost use Rattle.std.specs.Prelude.{◌≡◌, ◌≤◌, ◌-◌, ◌++◌, length, take, drop, replicate};
+ghost use Rattle.twamp_test.specs.Reply.{padding_at, reflected_len, reply_len, test_fields, test_reply};
+
+use octet_format::put;
+use refl_types::Extra;
+use stamp_packet::ReplyBase;
+
+/// Octets before the padding of a reply.
+const FIELDS_LEN: usize = 41;
+
+/// Octets before the padding of a request whose size isn't symmetrical.
+const TEST_LEN: usize = 14;
+
+/// The greatest number of octets that are reflected: a reply has at most 65,507.
+const MAX_REFLECTED: usize = 65_466;
+
+fn write_fields(reply: &ReplyBase, out: &mut [u8])
+    requires { 41 ≤ length out.old }
+    ensures { out.new ≡ test_fields reply.now ++ drop 41 out.old }
+{
+    put(out, 0, &reply.sequence.to_be_bytes());
+    put(out, 4, &reply.timestamp);
+    put(out, 12, &reply.error);
+    put(out, 14, &[0, 0]);
+    put(out, 16, &reply.received);
+    put(out, 24, &reply.sender.sequence.to_be_bytes());
+    put(out, 28, &reply.sender.timestamp);
+    put(out, 36, &reply.sender.error);
+    put(out, 38, &[0, 0, reply.ttl]);
+}
+
+/// Where the padding of a request begins.
+fn padding_at(extra: &Extra) -> usize
+    ensures { result ≡ padding_at extra.now }
+{
+    if extra.symmetrical {
+        FIELDS_LEN
+    } else {
+        TEST_LEN
+    }
+}
+
+/// How many octets of a request's padding are reflected.
+fn reflected_len(extra: &Extra, len: usize) -> usize
+    ensures { result ≡ reflected_len extra.now len }
+{
+    let padding = len.saturating_sub(padding_at(extra));
+    usize::from(extra.reflect).min(padding).min(MAX_REFLECTED)
+}
+
+/// The octets of a request's padding that are reflected.
+fn reflected<'a>(extra: &Extra, input: &'a [u8]) -> &'a [u8]
+    ensures { result.now ≡ take (reflected_len extra.now (length input.now)) (drop (padding_at extra.now) input.now) }
+{
+    let from = padding_at(extra);
+    if input.len() < from {
+        return &[];
+    }
+    let (_, padding) = input.split_at(from);
+    let (front, _) = padding.split_at(reflected_len(extra, input.len()));
+    front
+}
+
+/// Writes zeros from one place up to another.
+fn clear(out: &mut [u8], from: usize, to: usize)
+    requires order { from ≤ to }
+    requires room { to ≤ length out.old }
+    ensures { out.new ≡ take from out.old ++ replicate (to - from) 0 ++ drop to out.old }
+{
+    out[from..to].fill(0);
+}
+
+/// Writes the reply to a request and answers its length, which is at least the request's. Later octets stay.
+pub fn write_test(extra: &Extra, reply: &ReplyBase, input: &[u8], out: &mut [u8]) -> usize
+    requires read { 14 ≤ length input.now }
+    requires limit { length input.now ≤ 65507 }
+    requires room { 65536 ≤ length out.old }
+    ensures len { result ≡ reply_len extra.now (length input.now) }
+    ensures octets { out.new ≡ test_reply extra.now reply.now input.now ++ drop result out.old }
+    ensures limit { result ≤ 65507 }
+{
+    write_fields(reply, out);
+    let padding = reflected(extra, input);
+    put(out, FIELDS_LEN, padding);
+    let end = FIELDS_LEN + padding.len();
+    let len = end.max(input.len());
+    clear(out, end, len);
+    len
+}
+
+#[cfg(test)]
+mod tests {
+    use super::*;
+    use stamp_packet::SenderBase;
+    use std::test::Fail;
+
+    const REPLY: ReplyBase = ReplyBase {
+        sequence: 0,
+        timestamp: [0; 8],
+        error: [0, 1],
+        ssid: 7,
+        received: [0; 8],
+        sender: SenderBase {
+            sequence: 5,
+            timestamp: [0; 8],
+            error: [0, 1],
+            ssid: 0,
+        },
+        ttl: 255,
+    };
+
+    #[test]
+    fn a_reply_has_its_length_and_reflects_as_much_as_it_may(rt: HostRuntime) -> Result<(), Fail> {
+        // symmetrical, reflect, length of the request, length of the reply, octets reflected
+        let cases: [(bool, u16, usize, usize, usize); 48] = [
+            (false, 0, 14, 41, 0),
+            (false, 0, 40, 41, 0),
+            (false, 0, 41, 41, 0),
+            (false, 0, 45, 45, 0),
+            (false, 0, 100, 100, 0),
+            (false, 0, 65507, 65507, 0),
+            (false, 4, 14, 41, 0),
+            (false, 4, 40, 45, 4),
+            (false, 4, 41, 45, 4),
+            (false, 4, 45, 45, 4),
+            (false, 4, 100, 100, 4),
+            (false, 4, 65507, 65507, 4),
+            (false, 65466, 14, 41, 0),
+            (false, 65466, 40, 67, 26),
+            (false, 65466, 41, 68, 27),
+            (false, 65466, 45, 72, 31),
+            (false, 65466, 100, 127, 86),
+            (false, 65466, 65507, 65507, 65466),
+            (false, 65535, 14, 41, 0),
+            (false, 65535, 40, 67, 26),
+            (false, 65535, 41, 68, 27),
+            (false, 65535, 45, 72, 31),
+            (false, 65535, 100, 127, 86),
+            (false, 65535, 65507, 65507, 65466),
+            (true, 0, 14, 41, 0),
+            (true, 0, 40, 41, 0),
+            (true, 0, 41, 41, 0),
+            (true, 0, 45, 45, 0),
+            (true, 0, 100, 100, 0),
+            (true, 0, 65507, 65507, 0),
+            (true, 4, 14, 41, 0),
+            (true, 4, 40, 41, 0),
+            (true, 4, 41, 41, 0),
+            (true, 4, 45, 45, 4),
+            (true, 4, 100, 100, 4),
+            (true, 4, 65507, 65507, 4),
+            (true, 65466, 14, 41, 0),
+            (true, 65466, 40, 41, 0),
+            (true, 65466, 41, 41, 0),
+            (true, 65466, 45, 45, 4),
+            (true, 65466, 100, 100, 59),
+            (true, 65466, 65507, 65507, 65466),
+            (true, 65535, 14, 41, 0),
+            (true, 65535, 40, 41, 0),
+            (true, 65535, 41, 41, 0),
+            (true, 65535, 45, 45, 4),
+            (true, 65535, 100, 100, 59),
+            (true, 65535, 65507, 65507, 65466),
+        ];
+        let mut out = vec![in rt.alloc(); 0xEE; 65_536]?;
+        for (symmetrical, reflect, len, want, reflected) in cases {
+            let extra = Extra {
+                symmetrical,
+                reflect,
+            };
+            let input = vec![in rt.alloc(); 0x11; len]?;
+            if input.len() < 14 || input.len() > 65_507 {
+                return Err("a length".into());
+            }
+            out.fill(0xEE);
+            let got = write_test(&extra, &REPLY, &input, &mut out);
+            assert_eq!(rt; got, want);
+            assert_eq!(rt;
+                out.iter().filter(|octet| **octet == 0x11).count(),
+                reflected
+            );
+            assert_eq!(rt;
+                out.iter().filter(|octet| **octet == 0xEE).count(),
+                65_536 - want
+            );
+        }
+        Ok(())
+    }
+}
