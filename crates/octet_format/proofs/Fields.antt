@@ -59,9 +59,9 @@ written_from at old given text fits e =
     take_all : (l : List ℕ) → take (length l) l ≡ l
     take_all [] = refl
     take_all (x ∷ l) = ap (λ (r : List ℕ). x ∷ r) (take_all l)
+
     drop_past : (n : ℕ) (l : List ℕ) → length l ≤ n → drop n l ≡ []
     drop_past n l le = nil_from_length (drop n l) (omega (arith, length-drop n l))
-
 
 -- before the first field, what stands before it
 pub has_front : (old : List ℕ) (at : ℕ) → at ≤ length old → Has (take at old) old old at
