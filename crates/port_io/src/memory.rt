@@ -47,13 +47,24 @@ impl MemSource {
 }
 
 impl Source for MemSource {
-    ghost use Rattle.port_io.specs.Memory.{SourceState};
+    ghost use Rattle.std.specs.Prelude.{◌≡◌, ◌≤◌, ◌↔◌, length, Some, IsTrue, IsErr, IfOk, OnErr};
+    ghost use Rattle.std.specs.Io.KnownBytes.{ReadConsumes};
+    ghost use Rattle.port_io.specs.Outside.{Rises};
+    ghost use Rattle.port_io.specs.Memory.{SourceState, counted, fails};
 
     ghost left = { λ s. Some s.left };
 
     ghost faults = { λ s. s.faults };
 
-    fn read(&mut self, buf: &mut [u8]) -> Result<usize, Failed> {
+    fn read(&mut self, buf: &mut [u8]) -> Result<usize, Failed>
+        ensures bound { IfOk result (λ n. n ≤ length buf.new) }
+        ensures octets { ReadConsumes (Some self.old.left) (Some self.new.left) result buf.new }
+        ensures count { self.old.faults ≤ self.new.faults }
+        ensures cause { OnErr result (Rises self.old.faults self.new.faults) }
+        // Just the planned calls fail.
+        ensures planned { IsErr result ↔ IsTrue (fails self.old.failing (counted self.old.calls)) }
+        ensures calls { self.new.calls ≡ counted self.old.calls }
+    {
         self.calls = self.calls.saturating_add(1);
         if self.failing.contains(&self.calls) {
             self.faults = self.faults.saturating_add(1);
@@ -126,13 +137,24 @@ impl MemSink {
 }
 
 impl Sink for MemSink {
-    ghost use Rattle.port_io.specs.Memory.{SinkState};
+    ghost use Rattle.std.specs.Prelude.{◌≡◌, ◌<◌, ◌≤◌, length, Some, IsTrue, IsErr, IfOk, OnErr};
+    ghost use Rattle.std.specs.Io.KnownBytes.{WriteAppends};
+    ghost use Rattle.port_io.specs.Outside.{Rises};
+    ghost use Rattle.port_io.specs.Memory.{SinkState, counted, fails};
 
     ghost written = { λ s. Some s.written };
 
     ghost faults = { λ s. s.faults };
 
-    fn write(&mut self, octets: &[u8]) -> Result<usize, Failed> {
+    fn write(&mut self, octets: &[u8]) -> Result<usize, Failed>
+        ensures bound { IfOk result (λ n. n ≤ length octets.now) }
+        ensures some { IfOk result (λ n. 0 < length octets.now → 0 < n) }
+        ensures octets { WriteAppends (Some self.old.written) (Some self.new.written) result octets.now }
+        ensures count { self.old.faults ≤ self.new.faults }
+        ensures cause { OnErr result (Rises self.old.faults self.new.faults) }
+        ensures planned { IsTrue (fails self.old.failing (counted self.old.calls)) → IsErr result }
+        ensures calls { self.new.calls ≡ counted self.old.calls }
+    {
         self.calls = self.calls.saturating_add(1);
         if octets.len() > self.room - self.octets.len() || self.failing.contains(&self.calls) {
             self.faults = self.faults.saturating_add(1);

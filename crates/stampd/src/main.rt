@@ -4,6 +4,8 @@
 mod offline;
 mod outbox;
 mod read_ahead;
+#[cfg(test)]
+mod tests;
 
 use offline::offline;
 use port_io::{StdSink, StdSource};

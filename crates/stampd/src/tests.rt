@@ -1,0 +1,129 @@
+//! Runs over objects in memory, of which some calls fail.
+
+ghost use Rattle.std.specs.Prelude.{None};
+
+use crate::offline::offline;
+use port_io::{Failed, MemSink, MemSource, Source};
+use std::alloc::{AllocError, Global};
+use std::test::Fail;
+
+/// A source that gives a few octets a read.
+#[derive(Drop)]
+struct Trickle {
+    source: MemSource,
+    piece: usize,
+}
+
+impl Source for Trickle {
+    ghost left = { λ s. None };
+
+    ghost faults = { λ s. s.source.faults };
+
+    fn read(&mut self, buf: &mut [u8]) -> Result<usize, Failed> {
+        let most = buf.len().min(self.piece);
+        self.source.read(&mut buf[..most])
+    }
+}
+
+const OPENING: [u8; 36] = [
+    1, 0, 0, 0, 103, 0, 0, 4, 192, 0, 2, 1, 0, 0, 0, 0, 0, 0, 0, 0, 0, 0, 0, 0, 0x13, 0x88, 0, 0,
+    7, 0, 0, 0, 1, 0, 0, 1,
+];
+
+const DATAGRAM: [u8; 60] = [
+    4, 0, 0, 0, 83, 0, 0, 4, 192, 0, 2, 1, 0, 0, 0, 0, 0, 0, 0, 0, 0, 0, 0, 0, 0x13, 0x88, 0, 0, 0,
+    0, 0, 0, 0, 0, 0, 0, 0, 0, 0, 0, 0x3B, 0x9A, 0xC9, 0xFF, 0, 0, 0, 5, 0x11, 0x22, 0x33, 0x44,
+    0x55, 0x66, 0x77, 0x88, 0, 1, 0, 7,
+];
+
+const ANSWERS: [u8; 81] = [
+    0x81, 0, 0, 0, 1, 0, 0x84, 0, 0, 0, 70, 0, 0, 0, 4, 192, 0, 2, 1, 0, 0, 0, 0, 0, 0, 0, 0, 0, 0,
+    0, 0, 0x13, 0x88, 0, 0, 0, 0, 0, 0, 0, 0, 0x83, 0xAA, 0x7E, 0x80, 0xFF, 0xFF, 0xFF, 0xFB, 0, 1,
+    0, 7, 0x83, 0xAA, 0x7E, 0x80, 0, 0, 0, 0, 0, 0, 0, 5, 0x11, 0x22, 0x33, 0x44, 0x55, 0x66, 0x77,
+    0x88, 0, 1, 0, 0, 0xFF, 0, 0, 0,
+];
+
+/// An opening of 108 octets, and then as many datagrams of 88.
+fn stream(alloc: Global, datagrams: u8) -> Result<Vec<u8>, AllocError> {
+    let mut octets = Vec::new(alloc);
+    octets.extend_from_slice(&OPENING)?;
+    octets.extend_from_slice(&[0; 72])?;
+    for _ in 0..datagrams {
+        octets.extend_from_slice(&DATAGRAM)?;
+        octets.extend_from_slice(&[0; 28])?;
+    }
+    Ok(octets)
+}
+
+fn calls(alloc: Global, failing: u64) -> Result<Vec<u64>, AllocError> {
+    let mut numbers = Vec::new(alloc);
+    numbers.push(failing)?;
+    Ok(numbers)
+}
+
+fn words(alloc: Global) -> Result<Vec<String>, AllocError> {
+    let mut words = Vec::new(alloc);
+    words.push(String::from_str(alloc, "replay")?)?;
+    Ok(words)
+}
+
+#[test]
+fn one_datagram_is_answered_where_memory_is_ample(rt: HostRuntime) -> Result<(), Fail> {
+    let alloc = rt.alloc();
+    let mut input = MemSource::make(alloc, stream(alloc, 1)?, Vec::new(alloc))?;
+    let mut out = MemSink::make(alloc, 1000, Vec::new(alloc))?;
+    assert_eq!(rt; offline(alloc, &words(alloc)?, &mut input, &mut out), 0);
+    assert_eq!(rt; out.written(), ANSWERS.as_slice());
+    Ok(())
+}
+
+#[test]
+fn each_failing_read_is_told_behind_the_answers_to_whole_records(
+    rt: HostRuntime,
+) -> Result<(), Fail> {
+    let alloc = rt.alloc();
+    for (failing, answered) in [
+        (1, 0),
+        (2, 0),
+        (3, 0),
+        (4, 6),
+        (5, 81),
+        (6, 81),
+        (7, 156),
+        (8, 156),
+    ] {
+        let source = MemSource::make(alloc, stream(alloc, 3)?, calls(alloc, failing)?)?;
+        let mut input = Trickle { source, piece: 50 };
+        let mut out = MemSink::make(alloc, 1000, Vec::new(alloc))?;
+        let status = offline(alloc, &words(alloc)?, &mut input, &mut out);
+        assert_eq!(rt; status, 7, "read {failing}");
+        assert_eq!(rt; out.written().len(), answered, "read {failing}");
+    }
+    Ok(())
+}
+
+#[test]
+fn each_failing_write_is_told_and_leaves_a_front_of_the_answers(
+    rt: HostRuntime,
+) -> Result<(), Fail> {
+    let alloc = rt.alloc();
+    for (failing, status, written) in [
+        (1, 8, 0),
+        (2, 8, 6),
+        (3, 8, 81),
+        (4, 8, 156),
+        (5, 8, 231),
+        (6, 8, 306),
+        (7, 8, 381),
+        (8, 8, 456),
+        (9, 0, 531),
+    ] {
+        let source = MemSource::make(alloc, stream(alloc, 7)?, Vec::new(alloc))?;
+        let mut input = Trickle { source, piece: 50 };
+        let mut out = MemSink::make(alloc, 1000, calls(alloc, failing)?)?;
+        let got = offline(alloc, &words(alloc)?, &mut input, &mut out);
+        assert_eq!(rt; got, status, "write {failing}");
+        assert_eq!(rt; out.written().len(), written, "write {failing}");
+    }
+    Ok(())
+}
