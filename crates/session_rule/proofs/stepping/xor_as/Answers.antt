@@ -1,5 +1,4 @@
-use Rattle.std.proofs.Common.{◌+◌, ◌%◌, ◌^◌, ◌==◌, bit_and, bit_or, bit_xor, subst}
-use prog.Atomic.{either}
+use Rattle.std.proofs.Common.{bit_xor, subst}
 use Rattle.session_world.specs.declared.steps.TableSize.{TableSize}
 use Rattle.atomic_table.specs.Table.{Allows}
 use Rattle.session_rule.specs.Rule.{HasOneSchedule, ViewAfterStep}
