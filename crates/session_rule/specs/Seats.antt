@@ -2,11 +2,11 @@
 use Rattle.std.specs.Prelude.{◌≡◌, ℕ, ◌<◌, ◌≤◌, ◌^◌, true, List, [], ◌∷◌}
 use Rattle.session_world.specs.declared.steps.TableSize.{TableSize}
 use Rattle.session_world.specs.declared.steps.Step.{Step}
+use Rattle.session_world.specs.declared.steps.Step.TheVariants.{Split, Join}
 use Rattle.session_world.specs.declared.steps.Part.{Part}
 use Rattle.session_world.specs.Sizes.{IsWithinLimits}
 use Rattle.session_world.specs.Desk.{is_split}
 use Rattle.session_world.specs.Allowed.{WorkerMay, DeskMay}
-use Rattle.session_world.specs.declared.steps.Step.TheVariants.{Split, Join}
 use Rattle.session_world.specs.Runs.{ScheduledStep, run, Runs, ended_part}
 use Rattle.session_rule.specs.Splitting.{IsLeastFree}
 use Rattle.session_rule.specs.declared.seats.Table.{Table}
@@ -16,10 +16,11 @@ use Rattle.session_rule.specs.declared.seats.WorkerSeat.{WorkerSeat}
 abbrev pub size_of : Table → TableSize
 size_of t = t.size
 
--- the seat was made for the table. A worker's seat has a number of the table's
+-- the seat was made for the table
 abbrev pub IsDeskOf : Table → Seat → Type 0
 IsDeskOf t s = s.seat.table_id ≡ t.table.shared.table_id
 
+-- and its number is one of the table's workers
 abbrev pub IsWorkerOf : Table → WorkerSeat → Type 0
 IsWorkerOf t s = (s.seat.table_id ≡ t.table.shared.table_id) × (0 < s.number) × (s.number ≤ t.size.workers)
 
