@@ -17,7 +17,7 @@ use Rattle.session_world.specs.Worker.{LastLook, holds, has_key_words, key_match
 use Rattle.session_world.specs.Answers.{Answer, opened, seen, drew, missed, late, is_miss, words_give, completes_key, key_gives, draw_gives, desk_answers, worker_answers}
 use Rattle.session_world.specs.Allowed.{HasSeen}
 use Rattle.session_world.specs.Runs.{CoreState, ScheduledStep, run, Runs}
-use Rattle.session_world.specs.WholeRun.{by_desk, by_worker, row_steps, key_steps, look_steps, load_steps, whole_run, WholeRun}
+use Rattle.session_world.specs.WholeRun.{by_desk, by_worker, row_steps, key_steps, look_steps, load_steps, whole_run, Ends, WholeRun}
 use Rattle.session_world.proofs.BoolFacts.{true_ne_false, or_l, no_and, number_case, if_yes}
 use Rattle.session_world.proofs.KeyFacts.{key_of_same, extra_of_same, is_key_same, matches_start, start_low}
 use Rattle.session_world.proofs.Walks.{distance_start}
@@ -363,9 +363,8 @@ module _ (z : TableSize) (row key : ℕ → ℕ) (q : Query) (within : IsWithinL
   has_config : config_at (run z (whole_run row key slot q read)).desk 1 ≡ config_of row
   has_config = ap (λ (ds : List Step). config_at ds 1) (loading 4).desk ∙ config_is
 
-  pub all_of_it : (n : ℕ) × Runs z (whole_run row key slot q n) × (desk_answers (run z (whole_run row key slot q n)).desk ≡ opened (key_of key) (extra_of key) 1 ∷ [])
-      × (worker_answers z.slots ((run z (whole_run row key slot q n)).living_part 1) ≡ drew (key_of key) 0 1 ∷ seen q (key_of key) (extra_of key) 1 ∷ []) × (config_at (run z (whole_run row key slot q n)).desk 1 ≡ config_of row)
-  all_of_it = (read, draw_run, opens_it, draw_answers, has_config)
+  pub all_of_it : (n : ℕ) × Ends z row key q (whole_run row key slot q n)
+  all_of_it = (read, record { runs = draw_run; desk = opens_it; worker = draw_answers; config = has_config })
 
 pub whole : WholeRun
 whole z row key q within is_row is_key match keyed = all_of_it z row key q within is_row is_key match keyed

@@ -23,32 +23,61 @@ pub record MayReserve (z : TableSize) (ds : List Step) (i row : ℕ) : Type 0 wh
   pub path : HasPath z ds (start_of_key z (key_of_slot ds i)) i
 
 abbrev pub DeskMay : TableSize → List Step → Step → Type 0
-DeskMay z ds (WriteRow row index word) = (0 < row) × (row ≤ z.rows) × (0 < index) × (index < 13) × (12 * (row - 1) + (index - 1) ≡ rows_written ds) × (index ≡ 12 → IsNewRow ds row (put (row_word_of ds row) 12 word))
-DeskMay z ds (WriteKey slot index word) = (slot < z.slots) × (0 < index) × (index < 5) × ((generation_of ds slot ≡ 0) ⊎ MayReuse z ds slot)
+-- the next word, in order, of the first row that isn't complete. The twelfth completes a new configuration
+DeskMay z ds (WriteRow row index word) =
+    (0 < row) × (row ≤ z.rows) × (0 < index) × (index < 13)
+    × (12 * (row - 1) + (index - 1) ≡ rows_written ds)
+    × (index ≡ 12 → IsNewRow ds row (put (row_word_of ds row) 12 word))
+-- a key word of a slot that was never reserved, or that may be used again
+DeskMay z ds (WriteKey slot index word) =
+    (slot < z.slots) × (0 < index) × (index < 5)
+    × ((generation_of ds slot ≡ 0) ⊎ MayReuse z ds slot)
+-- a slot that was never reserved
 DeskMay z ds (ReserveNew slot row) = (generation_of ds slot ≡ 0) × MayReserve z ds slot row
-DeskMay z ds (ReserveUsed slot generation row) = (generation ≡ suc (generation_of ds slot)) × MayReuse z ds slot × MayReserve z ds slot row
-DeskMay z ds (Start slot read) = (slot < z.slots) × (is_reserved ds slot ≡ true) × ((j : ℕ) → is_open ds j ≡ true → excludes (key_of_slot ds j) (key_of_slot ds slot) ≡ false) × KeyedFor ds slot (row_of ds slot)
-DeskMay z ds (Reconfigure slot old new read) = (is_open ds slot ≡ true) × (old ≡ row_of ds slot) × IsComplete ds new × KeyedFor ds slot new
+-- a slot that may be used again, under its next generation
+DeskMay z ds (ReserveUsed slot generation row) =
+    (generation ≡ suc (generation_of ds slot)) × MayReuse z ds slot × MayReserve z ds slot row
+-- a reserved slot, where no open slot has its key, or its ends in another mode; in mode Auth the row's configuration has a key
+DeskMay z ds (Start slot read) =
+    (slot < z.slots) × (is_reserved ds slot ≡ true)
+    × ((j : ℕ) → is_open ds j ≡ true → excludes (key_of_slot ds j) (key_of_slot ds slot) ≡ false)
+    × KeyedFor ds slot (row_of ds slot)
+-- the row that the desk last gave an open slot, for another complete row or the same one; in mode Auth that has a key
+DeskMay z ds (Reconfigure slot old new read) =
+    (is_open ds slot ≡ true) × (old ≡ row_of ds slot) × IsComplete ds new × KeyedFor ds slot new
+-- an open slot; an expire expects an open word
 DeskMay z ds (Close slot read) = is_open ds slot ≡ true
 DeskMay z ds (Peek slot read) = is_open ds slot ≡ true
 DeskMay z ds (Expire slot expected read) = (is_open ds slot ≡ true) × (is_open_word expected ≡ true)
-DeskMay z ds (Split worker read) = (0 < worker) × (worker ≤ z.workers) × (is_split ds worker ≡ false) × ((j : ℕ) → 0 < j → j < worker → is_split ds j ≡ true)
+-- the least number that isn't split off, and a worker that is
+DeskMay z ds (Split worker read) =
+    (0 < worker) × (worker ≤ z.workers) × (is_split ds worker ≡ false)
+    × ((j : ℕ) → 0 < j → j < worker → is_split ds j ≡ true)
 DeskMay z ds (Join worker read) = is_split ds worker ≡ true
+-- always
 DeskMay z ds (Scan worker read) = (0 < worker) × (worker ≤ z.workers)
 DeskMay z ds _ = ⊥
 
 -- the worker's last answer is a sight by its last look, which is at slot i
 abbrev pub HasSeen : Option LastLook → ℕ → Type 0
 HasSeen None i = ⊥
-HasSeen (Some s) i = (s.slot ≡ i) × (s.live ≡ true) × (is_open_word s.read ≡ true) × (has_key_words s ≡ true) × (key_matches s ≡ true) × (¬ (s.number ≡ 0))
+HasSeen (Some s) i =
+    (s.slot ≡ i) × (s.live ≡ true) × (is_open_word s.read ≡ true)
+    × (has_key_words s ≡ true) × (key_matches s ≡ true) × (¬ (s.number ≡ 0))
 
 abbrev pub WorkerMay : TableSize → List Step → Step → Type 0
+-- always
 WorkerMay z xs (Announce slot) = slot < z.slots
 WorkerMay z xs Retire = Unit {0}
+-- at the slot that it announced last and hasn't retired
 WorkerMay z xs (Look slot query read) = (slot < z.slots) × (announced xs ≡ Some slot)
+-- a key word of the slot that it holds
 WorkerMay z xs (LoadKey slot index read) = (0 < index) × (index < 5) × (holds xs slot ≡ true)
+-- from the slot that it holds, once on each sight
 WorkerMay z xs (Draw slot read) = (holds xs slot ≡ true) × HasSeen (last_look z.slots xs) slot
-WorkerMay z xs (LoadRow row index read) = (0 < row) × (row ≤ z.rows) × (0 < index) × (index < 13) × (names_row xs row ≡ true)
+-- a word of a row that a slot word named to it
+WorkerMay z xs (LoadRow row index read) =
+    (0 < row) × (row ≤ z.rows) × (0 < index) × (index < 13) × (names_row xs row ≡ true)
 WorkerMay z xs _ = ⊥
 
 -- a step of the actor a, where the desk's list is ds and the actor's own is xs. The desk is actor 0

@@ -62,7 +62,10 @@ look_gives slots s = if is_miss slots s then missed s.query ∷ [] else []
 
 -- four key words end it by a sight where they match, and otherwise by a miss where all slots were passed
 abbrev pub words_give : ℕ → LastLook → List (Answer ℕ)
-words_give slots s = if key_matches s then seen s.query (key_of s.word) (extra_of s.word) (row_in s.read) ∷ [] else if s.number == slots then missed s.query ∷ [] else []
+words_give slots s =
+    if key_matches s then seen s.query (key_of s.word) (extra_of s.word) (row_in s.read) ∷ []
+    else if s.number == slots then missed s.query ∷ []
+    else []
 
 -- the load is the one that completes the four
 unfoldable pub completes_key : LastLook → ℕ → ℕ → ℕ → Bool

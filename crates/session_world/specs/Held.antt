@@ -13,6 +13,8 @@ word_at c p = slice_index c.words p
 
 -- no step of a schedule that runs changes the generation or a key word of a slot that a worker holds
 abbrev pub Held : Type 0
-Held = (z : TableSize) (m : ScheduledStep) (ms : List ScheduledStep) (w i : ℕ) → IsWithinLimits z → Runs z (m ∷ ms) → is_split (run z ms).desk (suc w) ≡ true → holds ((run z ms).living_part (suc w)) i ≡ true
+Held = (z : TableSize) (m : ScheduledStep) (ms : List ScheduledStep) (w i : ℕ)
+    → IsWithinLimits z → Runs z (m ∷ ms)
+    → is_split (run z ms).desk (suc w) ≡ true → holds ((run z ms).living_part (suc w)) i ≡ true
     → (generation_in (word_at (run z (m ∷ ms)) (slot_at i)) ≡ generation_in (word_at (run z ms) (slot_at i)))
     × ((k : ℕ) → 0 < k → k < 5 → word_at (run z (m ∷ ms)) (key_at i k) ≡ word_at (run z ms) (key_at i k))

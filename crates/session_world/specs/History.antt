@@ -55,7 +55,10 @@ NoMatch {C} t q = (k : Key) (b : Session C) → t k ≡ Some b → matches q k �
 
 -- where an event is legal. `keyed` says which configurations have an HMAC key
 abbrev pub IsLegalAt : {C : Type 0} → (C → Bool) → SessionMap C → Answer C → Type 0
-IsLegalAt {C} keyed t (opened k x c) = (is_sound k x ≡ true) × ((j : Key) (b : Session C) → t j ≡ Some b → excludes j k ≡ false) × (is_auth k ≡ true → keyed c ≡ true)
+IsLegalAt {C} keyed t (opened k x c) =
+    (is_sound k x ≡ true)
+    × ((j : Key) (b : Session C) → t j ≡ Some b → excludes j k ≡ false)
+    × (is_auth k ≡ true → keyed c ≡ true)
 IsLegalAt {C} keyed t (configured k c) = Has t k (λ b. Unit {0}) × (is_auth k ≡ true → keyed c ≡ true)
 IsLegalAt {C} keyed t (counted k n c) = Has t k (λ b. (b.count ≡ n) × (b.config ≡ c))
 IsLegalAt {C} keyed t (closed k n) = Has t k (λ b. b.count ≡ n)
@@ -106,4 +109,5 @@ DrawsCount = (w : ℕ) (k : Key) (n : ℕ) (c : ConfigParts) (h : List (Event Co
 
 -- at no point of a legal history does a query match two bound keys
 abbrev pub OneMatch : Type 0
-OneMatch = (h : List (Event ConfigParts)) → IsLegal has_key h → (q : Query) (j k : Key) (b d : Session ConfigParts) → map_after h j ≡ Some b → map_after h k ≡ Some d → matches q j ≡ true → matches q k ≡ true → j ≡ k
+OneMatch = (h : List (Event ConfigParts)) → IsLegal has_key h → (q : Query) (j k : Key) (b d : Session ConfigParts)
+    → map_after h j ≡ Some b → map_after h k ≡ Some d → matches q j ≡ true → matches q k ≡ true → j ≡ k

@@ -66,4 +66,6 @@ DeskWords (Expire slot expected read ∷ ds) = IsWordOf ds slot read × DeskWord
 DeskWords (_ ∷ ds) = DeskWords ds
 
 abbrev pub LoadedWords : Type 0
-LoadedWords = (z : TableSize) (ms : List ScheduledStep) → IsWithinLimits z → Runs z ms → DeskWords (run z ms).desk × ((w : ℕ) → is_split (run z ms).desk (suc w) ≡ true → WorkerWords z (run z ms).desk ((run z ms).living_part (suc w)))
+LoadedWords = (z : TableSize) (ms : List ScheduledStep) → IsWithinLimits z → Runs z ms
+    → DeskWords (run z ms).desk
+    × ((w : ℕ) → is_split (run z ms).desk (suc w) ≡ true → WorkerWords z (run z ms).desk ((run z ms).living_part (suc w)))

@@ -19,13 +19,16 @@ use Rattle.session_world.specs.Held.{word_at}
 -- A worker changes a slot word by a draw alone, which adds to the very word that it read. So a draw by a load and a later store
 -- runs in no schedule
 abbrev pub OnlyDrawsChange : Type 0
-OnlyDrawsChange = (z : TableSize) (m : ScheduledStep) (ms : List ScheduledStep) (w i : ℕ) → IsWithinLimits z → Runs z (m ∷ ms) → m.actor ≡ suc w → i < z.slots
+OnlyDrawsChange = (z : TableSize) (m : ScheduledStep) (ms : List ScheduledStep) (w i : ℕ)
+    → IsWithinLimits z → Runs z (m ∷ ms) → m.actor ≡ suc w → i < z.slots
     → (word_at (run z (m ∷ ms)) (slot_at i) ≡ word_at (run z ms) (slot_at i))
     ⊎ ((m.step ≡ Draw i (word_at (run z ms) (slot_at i))) × (word_at (run z (m ∷ ms)) (slot_at i) ≡ (word_at (run z ms) (slot_at i) + DRAW) % 2 ^ 64))
 
 -- a used slot is reserved only where every worker was scanned since the slot was closed
 abbrev pub ReuseIsScanned : Type 0
-ReuseIsScanned = (z : TableSize) (ms : List ScheduledStep) (i generation row w : ℕ) → Runs z (record { actor = 0; step = ReserveUsed i generation row } ∷ ms) → 0 < w → w ≤ z.workers → scanned_since (run z ms).desk i w ≡ true
+ReuseIsScanned = (z : TableSize) (ms : List ScheduledStep) (i generation row w : ℕ)
+    → Runs z (record { actor = 0; step = ReserveUsed i generation row } ∷ ms)
+    → 0 < w → w ≤ z.workers → scanned_since (run z ms).desk i w ≡ true
 
 abbrev pub TakesSlot : Step → ℕ → Type 0
 TakesSlot (WriteKey slot index word) i = i ≡ slot
@@ -35,15 +38,20 @@ TakesSlot _ i = ⊥
 
 -- and neither it nor a key word of it is written while a worker holds the slot
 abbrev pub HeldIsNotTaken : Type 0
-HeldIsNotTaken = (z : TableSize) (s : Step) (ms : List ScheduledStep) (w i : ℕ) → IsWithinLimits z → Runs z (record { actor = 0; step = s } ∷ ms) → is_split (run z ms).desk (suc w) ≡ true → holds ((run z ms).living_part (suc w)) i ≡ true → ¬ TakesSlot s i
+HeldIsNotTaken = (z : TableSize) (s : Step) (ms : List ScheduledStep) (w i : ℕ)
+    → IsWithinLimits z → Runs z (record { actor = 0; step = s } ∷ ms)
+    → is_split (run z ms).desk (suc w) ≡ true → holds ((run z ms).living_part (suc w)) i ≡ true → ¬ TakesSlot s i
 
 -- a worker looks only at a slot that its announcement word names at that moment
 abbrev pub LooksAreAnnounced : Type 0
-LooksAreAnnounced = (z : TableSize) (ms : List ScheduledStep) (w i : ℕ) (q : Query) (read : ℕ) → IsWithinLimits z → Runs z (record { actor = suc w; step = Look i q read } ∷ ms) → word_at (run z ms) (announced_at z (suc w)) ≡ suc i
+LooksAreAnnounced = (z : TableSize) (ms : List ScheduledStep) (w i : ℕ) (q : Query) (read : ℕ)
+    → IsWithinLimits z → Runs z (record { actor = suc w; step = Look i q read } ∷ ms)
+    → word_at (run z ms) (announced_at z (suc w)) ≡ suc i
 
 -- only an expire that found the word that it expects gives an expiry. So a close after a peek is none
 abbrev pub ExpiresAreExact : Type 0
-ExpiresAreExact = (ds : List Step) (s : Step) (k : Key) (n row : ℕ) → desk_gives ds s ≡ expired k n row ∷ [] → (slot expected : ℕ) × (s ≡ Expire slot expected expected)
+ExpiresAreExact = (ds : List Step) (s : Step) (k : Key) (n row : ℕ)
+    → desk_gives ds s ≡ expired k n row ∷ [] → (slot expected : ℕ) × (s ≡ Expire slot expected expected)
 
 -- A worker that was split off after a session was opened, and whose one answer is a miss for a query that matches the session:
 -- where the desk's one answer is the opening, no history explains the schedule

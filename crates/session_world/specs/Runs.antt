@@ -31,8 +31,18 @@ ended_after ds part ended _ = ended
 
 -- a step changes its word and its actor's list
 abbrev pub state_after : TableSize → CoreState → ℕ → Step → CoreState
-state_after z c zero s = record { words = words_after z c.words 0 s; desk = s ∷ c.desk; living_part = parts_after c.living_part s; ended_parts = ended_after c.desk c.living_part c.ended_parts s }
-state_after z c (suc w) s = record { words = words_after z c.words (suc w) s; desk = c.desk; living_part = put c.living_part (suc w) (s ∷ c.living_part (suc w)); ended_parts = c.ended_parts }
+state_after z c zero s = record {
+  words = words_after z c.words 0 s;
+  desk = s ∷ c.desk;
+  living_part = parts_after c.living_part s;
+  ended_parts = ended_after c.desk c.living_part c.ended_parts s;
+}
+state_after z c (suc w) s = record {
+  words = words_after z c.words (suc w) s;
+  desk = c.desk;
+  living_part = put c.living_part (suc w) (s ∷ c.living_part (suc w));
+  ended_parts = c.ended_parts;
+}
 
 abbrev pub first_state : TableSize → CoreState
 first_state z = record { words = first_words z; desk = []; living_part = λ w. []; ended_parts = [] }
@@ -54,4 +64,7 @@ run z (m ∷ ms) = state_after z (run z ms) m.actor m.step
 -- each step is allowed and has read what stood in its word
 abbrev pub Runs : TableSize → List ScheduledStep → Type 0
 Runs z [] = Unit {0}
-Runs z (m ∷ ms) = Runs z ms × IsAllowed z m.actor (run z ms).desk (own_steps (run z ms) m.actor) m.step × HasRead m.step (slice_index (run z ms).words (word_index z m.actor m.step))
+Runs z (m ∷ ms) =
+    Runs z ms
+    × IsAllowed z m.actor (run z ms).desk (own_steps (run z ms) m.actor) m.step
+    × HasRead m.step (slice_index (run z ms).words (word_index z m.actor m.step))

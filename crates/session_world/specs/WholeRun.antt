@@ -45,11 +45,17 @@ load_steps row key slot q read (suc k) = by_worker (LoadKey slot (suc k) (key (s
 abbrev pub whole_run : (ℕ → ℕ) → (ℕ → ℕ) → ℕ → Query → ℕ → List ScheduledStep
 whole_run row key slot q read = by_worker (Draw slot (word_of 0 1 1 false)) ∷ load_steps row key slot q read 4
 
--- For each size, key, extra, configuration and query that matches, it runs, whatever the split read in word 0. The desk answers that
--- the session is opened, and the worker that it saw it and drew 0
+-- the answers of the desk and of the worker, and the configuration of row 1, after such a run
+pub record Ends (z : TableSize) (row key : ℕ → ℕ) (q : Query) (ms : List ScheduledStep) : Type 0 where
+  pub runs : Runs z ms
+  pub desk : desk_answers (run z ms).desk ≡ opened (key_of key) (extra_of key) 1 ∷ []
+  pub worker : worker_answers z.slots ((run z ms).living_part 1) ≡ drew (key_of key) 0 1 ∷ seen q (key_of key) (extra_of key) 1 ∷ []
+  pub config : config_at (run z ms).desk 1 ≡ config_of row
+
+-- For each size, key, extra, configuration and query that matches, it runs, with what the split read in word 0. The desk answers
+-- that the session is opened, and the worker that it saw it and drew 0
 abbrev pub WholeRun : Type 0
-WholeRun = (z : TableSize) (row key : ℕ → ℕ) (q : Query) → IsWithinLimits z → IsConfigRow row → IsKey key → matches q (key_of key) ≡ true → (is_auth (key_of key) ≡ true → has_key (config_of row) ≡ true) → (read : ℕ)
-    × Runs z (whole_run row key (start_of z.slots q.local q.peer) q read)
-    × (desk_answers (run z (whole_run row key (start_of z.slots q.local q.peer) q read)).desk ≡ opened (key_of key) (extra_of key) 1 ∷ [])
-    × (worker_answers z.slots ((run z (whole_run row key (start_of z.slots q.local q.peer) q read)).living_part 1) ≡ drew (key_of key) 0 1 ∷ seen q (key_of key) (extra_of key) 1 ∷ [])
-    × (config_at (run z (whole_run row key (start_of z.slots q.local q.peer) q read)).desk 1 ≡ config_of row)
+WholeRun = (z : TableSize) (row key : ℕ → ℕ) (q : Query)
+    → IsWithinLimits z → IsConfigRow row → IsKey key → matches q (key_of key) ≡ true
+    → (is_auth (key_of key) ≡ true → has_key (config_of row) ≡ true)
+    → (read : ℕ) × Ends z row key q (whole_run row key (start_of z.slots q.local q.peer) q read)
