@@ -1,0 +1,72 @@
+"""Runs all cases on a program and counts which pass."""
+
+import os
+import pathlib
+import subprocess
+import sys
+
+import scripted
+from hex_text import octets
+
+SECONDS = 120
+
+
+def file_cases(folder):
+    """A case a folder: input, output, status, and words where they are not just replay."""
+    for case in sorted(folder.iterdir()):
+        words = case / "words"
+        yield (
+            case.name,
+            words.read_text().split() if words.exists() else ["replay"],
+            octets((case / "input").read_text()),
+            octets((case / "output").read_text()),
+            int((case / "status").read_text()),
+        )
+
+
+def difference(found, wanted):
+    """Where two outputs part, with some octets of both."""
+    at = len(os.path.commonprefix([found, wanted]))
+    shown = lambda octets: octets[at : at + 16].hex() or "nothing"
+    return f"{shown(found)} in place of {shown(wanted)} at octet {at} of the output"
+
+
+def run_file_case(program, words, given, wanted, status):
+    ended = subprocess.run([program, *words], input=given, capture_output=True, timeout=SECONDS)
+    if ended.stdout != wanted:
+        return difference(ended.stdout, wanted)
+    if ended.returncode != status:
+        return f"status {ended.returncode} in place of {status}"
+    if ended.stderr:
+        return f"octets on the standard error: {ended.stderr[:60]!r}"
+    return None
+
+
+def guarded(run, *args):
+    """What is wrong, where a run also must not fail by itself."""
+    try:
+        return run(*args)
+    except (OSError, subprocess.SubprocessError, AssertionError, TimeoutError) as fault:
+        return f"{type(fault).__name__}: {fault}"
+
+
+def main():
+    program = os.path.abspath(sys.argv[1])
+    folder = pathlib.Path(__file__).parent / "cases"
+    passed = failed = 0
+    results = [
+        (name, guarded(run_file_case, program, *case)) for name, *case in file_cases(folder)
+    ]
+    results += [(name, guarded(run, program)) for name, run in scripted.cases()]
+    for name, wrong in results:
+        if wrong is None:
+            passed += 1
+        else:
+            failed += 1
+            print(f"{name}: {wrong}")
+    print(f"{passed} passed, {failed} failed")
+    return 1 if failed else 0
+
+
+if __name__ == "__main__":
+    sys.exit(main())

@@ -1,0 +1,456 @@
+"""Cases that a pair of files does not say: how octets arrive, and tables of many inputs."""
+
+import os
+import pathlib
+import pty
+import select
+import subprocess
+import tty
+
+from hex_text import octets
+from records import *
+
+TOP = pathlib.Path(__file__).resolve().parent.parent
+SECONDS = 60
+PIPE = subprocess.PIPE
+CASES = []
+
+
+def case(run):
+    CASES.append(run)
+    return run
+
+
+def cases():
+    return [(run.__name__, run) for run in CASES]
+
+
+def start(program, words=("replay",), **streams):
+    streams = {"stdin": PIPE, "stdout": PIPE, "stderr": PIPE, "bufsize": 0} | streams
+    return subprocess.Popen([program, *words], **streams)
+
+
+def ends(process, status):
+    """What is wrong with how a program ended."""
+    found = process.wait(timeout=SECONDS)
+    return None if found == status else f"status {found} in place of {status}"
+
+
+def differs(what, found, wanted):
+    return None if found == wanted else f"{what}: {found[:40].hex()} in place of {wanted[:40].hex()}"
+
+
+def replay(program, given):
+    ended = subprocess.run([program, "replay"], input=given, capture_output=True, timeout=SECONDS)
+    return ended.stdout, ended.returncode
+
+
+def take(stream, count):
+    """The next octets of a stream, where they come while the input stays open."""
+    out = b""
+    while len(out) < count:
+        ready, _, _ = select.select([stream], [], [], 20)
+        if not ready:
+            raise TimeoutError(f"{len(out)} of {count} octets of an answer came")
+        piece = os.read(stream.fileno(), count - len(out))
+        if not piece:
+            raise AssertionError(f"the output ended after {len(out)} of {count} octets")
+        out += piece
+    return out
+
+
+def answers_of(program, requests, opening_record):
+    """The body of the answer to each request, sent as datagrams of one session."""
+    found, status = replay(program, opening_record + b"".join(map(datagram, requests)))
+    assert status == 0, f"status {status} in place of 0"
+    assert found.startswith(opened()), "the session is not opened"
+    bodies, at = [], len(opened())
+    while at < len(found):
+        length = int.from_bytes(found[at + 1 : at + 5], "big")
+        bodies.append(found[at : at + 5 + length])
+        at += 5 + length
+    assert len(bodies) == len(requests), f"{len(bodies)} answers to {len(requests)} datagrams"
+    return bodies
+
+
+def cuts(program, request, opening_record, wanted):
+    """Each cut of a request, where wanted gives its answer for the numbers drawn before."""
+    drawn = 0
+    lengths = range(len(request) + 1)
+    bodies = answers_of(program, [request[:length] for length in lengths], opening_record)
+    for length, body in zip(lengths, bodies):
+        answer = wanted(length, drawn)
+        if body != answer:
+            return differs(f"cut to {length} octets", body, answer)
+        drawn += len(answer) > 6
+    return None
+
+
+# ---- words
+
+
+def usage(program, words):
+    ended = subprocess.run([program, *words], input=opening(), capture_output=True, timeout=SECONDS)
+    return (
+        differs("the output", ended.stdout, b"stampd: usage\n")
+        or (None if ended.returncode == 2 else f"status {ended.returncode} in place of 2")
+    )
+
+
+@case
+def no_words_give_the_usage(program):
+    return usage(program, [])
+
+
+@case
+def a_second_word_gives_the_usage(program):
+    return usage(program, ["replay", "x"])
+
+
+@case
+def words_that_begin_with_a_dash_give_the_usage(program):
+    for words in (["-"], ["--help"], ["-replay"], ["replay", "-"], ["--", "replay"]):
+        if wrong := usage(program, words):
+            return f"{words}: {wrong}"
+    return None
+
+
+@case
+def other_spellings_give_the_usage(program):
+    for words in ([""], ["Replay"], ["replay "], ["repla"], ["replays"], ["gen"]):
+        if wrong := usage(program, words):
+            return f"{words}: {wrong}"
+    return None
+
+
+# ---- how octets come and go
+
+
+@case
+def an_answer_is_seen_before_the_next_record_is_written(program):
+    process = start(program)
+    for given, wanted in (
+        (opening(), opened()),
+        (datagram(PLAIN_REQUEST), reflected(0, plain_reply(0))),
+        (datagram(PLAIN_REQUEST[:20]), silent(SHORT)),
+        (datagram(PLAIN_REQUEST), reflected(1, plain_reply(1))),
+    ):
+        process.stdin.write(given)
+        if wrong := differs("an answer", take(process.stdout, len(wanted)), wanted):
+            process.kill()
+            return wrong
+    process.stdin.close()
+    return differs("after the end", process.stdout.read(), b"") or ends(process, 0)
+
+
+@case
+def octets_that_come_one_by_one_are_answered_alike(program):
+    process = start(program)
+    for each in opening() + datagram(PLAIN_REQUEST + bytes.fromhex("80C80000")):
+        process.stdin.write(bytes([each]))
+    process.stdin.close()
+    wanted = opened() + reflected(0, plain_reply(0, bytes.fromhex("80C80000")))
+    return differs("the output", process.stdout.read(), wanted) or ends(process, 0)
+
+
+@case
+def the_answers_before_a_slow_record_are_seen(program):
+    process = start(program)
+    process.stdin.write(opening() + datagram(PLAIN_REQUEST) + datagram(PLAIN_REQUEST)[:60])
+    wanted = opened() + reflected(0, plain_reply(0))
+    wrong = differs("before", take(process.stdout, len(wanted)), wanted)
+    process.stdin.write(datagram(PLAIN_REQUEST)[60:])
+    process.stdin.close()
+    return wrong or differs("behind", process.stdout.read(), reflected(1, plain_reply(1))) or ends(process, 0)
+
+
+@case
+def a_stream_that_leaves_the_grammar_ends_while_its_input_is_open(program):
+    process = start(program)
+    process.stdin.write(opening() + b"\x09")
+    wanted = opened() + grammar_left(108)
+    return differs("the output", process.stdout.read(), wanted) or ends(process, 6)
+
+
+@case
+def a_closed_output_ends_with_status_8(program):
+    reading, writing = os.pipe()
+    process = start(program, stdout=writing)
+    os.close(writing)
+    os.close(reading)
+    process.stdin.write(opening())
+    process.stdin.close()
+    return ends(process, 8)
+
+
+@case
+def an_output_that_closes_midway_ends_with_status_8(program):
+    process = start(program)
+    process.stdin.write(opening())
+    wrong = differs("the first answer", take(process.stdout, 6), opened())
+    process.stdout.close()
+    process.stdin.write(datagram(PLAIN_REQUEST))
+    return wrong or ends(process, 8)
+
+
+@case
+def a_full_output_ends_with_status_8(program):
+    with open("/dev/full", "wb") as full:
+        process = start(program, stdout=full)
+    process.stdin.write(opening())
+    return ends(process, 8)
+
+
+@case
+def a_full_output_changes_nothing_where_there_is_no_answer(program):
+    with open("/dev/full", "wb") as full:
+        process = start(program, stdout=full)
+    process.stdin.close()
+    return ends(process, 0)
+
+
+@case
+def the_usage_that_cannot_be_written_keeps_its_status(program):
+    with open("/dev/full", "wb") as full:
+        process = start(program, words=(), stdout=full)
+    return ends(process, 2)
+
+
+@case
+def a_folder_as_input_ends_with_status_7(program):
+    folder = os.open("/", os.O_RDONLY)
+    process = start(program, stdin=folder)
+    os.close(folder)
+    return differs("the output", process.stdout.read(), b"") or ends(process, 7)
+
+
+@case
+def a_read_that_fails_midway_ends_with_status_7_behind_the_answers(program):
+    far, near = pty.openpty()
+    tty.setraw(near)
+    process = start(program, stdin=far)
+    os.close(far)
+    os.write(near, opening() + datagram(PLAIN_REQUEST) + datagram(PLAIN_REQUEST)[:50])
+    wanted = opened() + reflected(0, plain_reply(0))
+    wrong = differs("the answers", take(process.stdout, len(wanted)), wanted)
+    os.close(near)
+    return wrong or differs("behind them", process.stdout.read(), b"") or ends(process, 7)
+
+
+# ---- what leaves the grammar
+
+
+@case
+def a_stream_cut_anywhere_ends_with_the_offset_of_its_record(program):
+    first, second = opening(), datagram(PLAIN_REQUEST)
+    whole = first + second
+    for length in range(len(whole) + 1):
+        wanted, status = (opened(), 0) if length >= len(first) else (b"", 0)
+        if length == len(whole):
+            wanted += reflected(0, plain_reply(0))
+        elif length not in (0, len(first)):
+            wanted, status = wanted + grammar_left(108 if length > len(first) else 0), 6
+        found = replay(program, whole[:length])
+        if found != (wanted, status):
+            return f"cut to {length} octets: {found[0].hex()} and status {found[1]}"
+    return None
+
+
+def changed(given, at, value):
+    return given[:at] + value + given[at + len(value) :]
+
+
+# What stands where in an Open, counted from its tag.
+OPEN_FAMILY, OPEN_ADDRESS, OPEN_MODE, OPEN_SSID, OPEN_EXTRA, OPEN_FLAGS = 7, 8, 26, 27, 29, 32
+OPEN_SCALE, OPEN_MULTIPLIER, OPEN_TLVS, OPEN_KEY = 34, 35, 40, 44
+# And in a Datagram.
+DATAGRAM_FAMILY, DATAGRAM_ADDRESS, DATAGRAM_TTL = 7, 8, 26
+
+OUTSIDE = [
+    ("tag 0", b"\0" + opening()[1:]),
+    ("tag 2", record(2, bytes(100))),
+    ("tag 3", record(3, bytes(24))),
+    ("tag 5", record(5, bytes(24))),
+    ("the tag of an answer", opened()),
+    ("an Open of 102 octets", record(1, opening()[5:-1])),
+    ("an Open of 104 octets", record(1, opening()[5:] + b"\0")),
+    ("an Open without body", record(1, b"")),
+    ("an Open of 2^32 - 1 octets", b"\1\xff\xff\xff\xff" + opening()[5:]),
+    ("family 0", changed(opening(), OPEN_FAMILY, b"\0")),
+    ("family 5", changed(opening(), OPEN_FAMILY, b"\5")),
+    ("an IPv4 address of more than four octets", changed(opening(), OPEN_ADDRESS + 4, b"\1")),
+    ("an IPv4 address whose 16th octet is 1", changed(opening(), OPEN_ADDRESS + 15, b"\1")),
+    ("mode 3", opening(mode=3)),
+    ("a TWAMP session with an SSID", opening(mode=TWAMP, ssid=1)),
+    ("symmetrical 2", opening(mode=TWAMP, ssid=0, extra=b"\2\0\0")),
+    ("a symmetrical plain session", opening(extra=b"\1\0\0")),
+    ("a plain session with octets to reflect", opening(extra=b"\0\0\1")),
+    ("an authenticated one with octets to reflect", opening(AUTHENTICATED, flags=5, key=KEY, extra=b"\0\1\0")),
+    ("configuration flag 10", opening(flags=0x11)),
+    ("configuration flag 80", opening(flags=0x81)),
+    ("scale 64", changed(opening(), OPEN_SCALE, b"\x40")),
+    ("multiplier 0", changed(opening(), OPEN_MULTIPLIER, b"\0")),
+    ("TLV type 1 as a supported one", changed(opening(), OPEN_TLVS + 3, b"\2")),
+    ("TLV type 31 as a supported one", changed(opening(), OPEN_TLVS, b"\x80")),
+    ("a key block without its flag", changed(opening(), OPEN_KEY, b"\1")),
+    ("the last octet of a key block without its flag", changed(opening(), OPEN_KEY + 63, b"\1")),
+    ("a datagram record of 38 octets", record(4, datagram(b"")[5:-1])),
+    ("a datagram of 65,508 octets", datagram(bytes(65_508))),
+    ("a datagram of family 7", changed(datagram(PLAIN_REQUEST), DATAGRAM_FAMILY, b"\7")),
+    ("a datagram of a long IPv4 address", changed(datagram(PLAIN_REQUEST), DATAGRAM_ADDRESS + 7, b"\1")),
+    ("TTL told 2", datagram(PLAIN_REQUEST, ttl=b"\2\0")),
+    ("a TTL that is not told and not 0", datagram(PLAIN_REQUEST, ttl=b"\0\1")),
+]
+
+
+@case
+def a_field_outside_its_table_leaves_the_grammar(program):
+    for what, outside in OUTSIDE:
+        wanted = (opened() + grammar_left(108), 6)
+        found = replay(program, opening() + outside + datagram(PLAIN_REQUEST))
+        if found != wanted:
+            return f"{what}: {found[0].hex()} and status {found[1]}"
+    return None
+
+
+@case
+def the_ends_of_each_field_stay_within_the_grammar(program):
+    for what, within in (
+        ("port 0", opening(ends=ENDS[:19] + bytes(2))),
+        ("port 65,535 and local address 65,535", opening(ends=b"\xff\xff" + ENDS[2:19] + b"\xff\xff")),
+        ("an IPv6 address of zeros", opening(ends=bytes(2) + b"\6" + bytes(16) + ENDS[19:])),
+        ("scale 63, multiplier 255, offset 255", opening(rest=bytes.fromhex("FF 3F FF FFFFFFFF 00000028"))),
+        ("all flags and a key of 64 octets", opening(flags=15, key=b"\xff" * 64)),
+        ("a key of zeros", opening(AUTHENTICATED, flags=5)),
+        ("a TWAMP session with all octets to reflect", opening(TWAMP, 0, extra=b"\1\xff\xff")),
+        ("SSID 65,535", opening(ssid=65_535)),
+    ):
+        found = replay(program, within)
+        if found != (opened(), 0):
+            return f"{what}: {found[0].hex()} and status {found[1]}"
+    return None
+
+
+@case
+def the_shortest_datagram_record_has_no_packet(program):
+    found = replay(program, opening(TWAMP, 0) + datagram(b""))
+    return None if found == (opened() + silent(SHORT), 0) else f"{found[0].hex()} and status {found[1]}"
+
+
+# ---- cuts of a request
+
+
+@case
+def a_plain_request_is_judged_at_every_length(program):
+    tail = bytes.fromhex("80010008 0102030405060708")
+
+    def wanted(length, drawn):
+        if length < 16:
+            return silent(NO_SESSION)
+        if length < 44:
+            return silent(SHORT)
+        cut = bytearray(tail[: length - 44])
+        if length >= 48:
+            cut[0] = 0x00 if length == 56 else 0x40
+        return reflected(drawn, plain_reply(drawn, bytes(cut)))
+
+    return cuts(program, PLAIN_REQUEST + tail, opening(), wanted)
+
+
+@case
+def a_signed_request_is_judged_at_every_length(program):
+    def wanted(length, drawn):
+        if length < 28:
+            return silent(NO_SESSION)
+        if length < 112:
+            return silent(SHORT)
+        return reflected(drawn, authenticated_reply(drawn))
+
+    return cuts(program, authenticated_request(), opening(AUTHENTICATED, flags=5, key=KEY), wanted)
+
+
+@case
+def a_twamp_request_is_judged_at_every_length(program):
+    def wanted(length, drawn):
+        if length < 14:
+            return silent(SHORT)
+        return reflected(drawn, twamp_reply(drawn, bytes(max(0, length - 41))))
+
+    return cuts(program, TWAMP_REQUEST + bytes([0xAA]) * 46, opening(TWAMP, 0), wanted)
+
+
+@case
+def a_signed_request_is_refused_for_each_bit(program):
+    signed = authenticated_request()
+    # The SSID in octets 26 and 27 names another session before the HMAC is looked at.
+    requests = [
+        changed(signed, at, bytes([signed[at] ^ 1 << bit]))
+        for at in range(112) for bit in range(8)
+    ]
+    bodies = answers_of(program, requests + [signed], opening(AUTHENTICATED, flags=5, key=KEY))
+    for place, body in enumerate(bodies[:-1]):
+        answer = silent(NO_SESSION if place // 8 in (26, 27) else BAD_HMAC)
+        if body != answer:
+            return differs(f"bit {place % 8} of octet {place // 8}", body, answer)
+    return differs("the signed one", bodies[-1], reflected(0, authenticated_reply(0)))
+
+
+# ---- limits
+
+
+@case
+def just_1024_sessions_are_live_at_once(program):
+    other_peer = ENDS[:6] + b"\2" + ENDS[7:]
+    given = b"".join(opening(ssid=ssid) for ssid in range(1024))
+    wanted = opened() * 1024
+    for record_given, answer in (
+        (opening(ssid=1024), opened(3)),
+        (opening(ssid=1023), opened(1)),
+        (opening(TWAMP, 0), opened(2)),
+        (opening(AUTHENTICATED, ends=other_peer), opened(5)),
+        (opening(ends=other_peer), opened(3)),
+    ):
+        given += record_given
+        wanted += answer
+    for ssid in (0, 1023):
+        request = PLAIN_REQUEST[:14] + ssid.to_bytes(2, "big") + PLAIN_REQUEST[16:]
+        given += datagram(request)
+        wanted += reflected(0, plain_reply(0, ssid=ssid))
+    found, status = replay(program, given)
+    return differs("the output", found, wanted) or (None if status == 0 else f"status {status}")
+
+
+@case
+def a_long_stream_is_answered_in_bounded_memory(program):
+    count = 2_000
+    tail = bytes.fromhex("0001FFB3") + bytes(65_459)
+    one = datagram(PLAIN_REQUEST + tail)
+    process = start(program, stdout=subprocess.DEVNULL)
+    process.stdin.write(opening())
+    for _ in range(count // 10):
+        process.stdin.write(one * 10)
+    process.stdin.close()
+    _, status, used = os.wait4(process.pid, 0)
+    process.returncode = os.waitstatus_to_exitcode(status)
+    if process.returncode != 0:
+        return f"status {process.returncode} in place of 0"
+    # The stream has 125 MiB. What is measured is never less than what this script itself takes.
+    return None if used.ru_maxrss < 64 * 1024 else f"{used.ru_maxrss} KiB of memory"
+
+
+# ---- the example
+
+
+@case
+def the_example_is_what_its_text_says(program):
+    text, stream = TOP / "examples" / "first.hex", TOP / "examples" / "first.replay"
+    return differs("the stream", stream.read_bytes(), octets(text.read_text()))
+
+
+@case
+def the_demo_prints_each_answer(program):
+    ended = subprocess.run([TOP / "demo"], env=os.environ | {"STAMPD": program}, capture_output=True, text=True, timeout=SECONDS)
+    for wanted in ("opened", "number 0 drawn", "no reply: bad HMAC", "no reply: no session", "deadbeef", "status 0"):
+        if wanted not in ended.stdout:
+            return f"nothing says '{wanted}'"
+    return None if ended.returncode == 0 else f"status {ended.returncode} in place of 0"
