@@ -16,10 +16,9 @@ pub struct StdSource<T> {
 
 impl<T: Read + Drop> StdSource<T> {
     /// The standard input.
-    pub fn make<R: Input<Reader = T> + Drop>(
-        rt: R,
-        _alloc: Global,
-    ) -> Result<StdSource<T>, Memory> {
+    pub fn make<R: Input<Reader = T> + Drop>(rt: R, _alloc: Global) -> Result<StdSource<T>, Memory>
+        ensures { IfOk result (λ s. s.faults ≡ 0) }
+    {
         Ok(StdSource {
             reader: rt.reader(),
             faults: 0,
@@ -68,7 +67,9 @@ pub struct StdSink<W> {
 
 impl<R: Print + Drop> StdSink<Output<R>> {
     /// The standard output.
-    pub fn make(rt: R, _alloc: Global) -> Result<StdSink<Output<R>>, Memory> {
+    pub fn make(rt: R, _alloc: Global) -> Result<StdSink<Output<R>>, Memory>
+        ensures { IfOk result (λ s. s.faults ≡ 0) }
+    {
         Ok(StdSink {
             writer: Output { rt },
             faults: 0,

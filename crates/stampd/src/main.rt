@@ -9,24 +9,28 @@ mod tests;
 
 use offline::offline;
 use port_io::{StdSink, StdSource};
-use std::env;
 use std::process::ExitCode;
+use std::{env, io};
 
 fn main(rt: HostRuntime) -> ExitCode {
-    let Ok(args) = env::args(&rt) else {
-        return ExitCode::from(2);
-    };
-    let Ok(mut words) = args.collect::<Vec<String>>(rt.alloc()) else {
-        return ExitCode::from(4);
+    let alloc = rt.alloc();
+    let mut words = match env::args(&rt) {
+        Ok(args) => match args.collect::<Vec<String>>(alloc) {
+            Ok(words) => words,
+            Err(_) => return ExitCode::from(4),
+        },
+        // A word that isn't UTF-8 makes a faulty command line, as no word does.
+        Err(error) if error.kind() == io::ErrorKind::InvalidData => Vec::new(alloc),
+        Err(_) => return ExitCode::from(4),
     };
     if !words.is_empty() {
         let _name = words.remove(0);
     }
-    let Ok(mut input) = StdSource::make(rt, rt.alloc()) else {
+    let Ok(mut input) = StdSource::make(rt, alloc) else {
         return ExitCode::from(4);
     };
-    let Ok(mut out) = StdSink::make(rt, rt.alloc()) else {
+    let Ok(mut out) = StdSink::make(rt, alloc) else {
         return ExitCode::from(4);
     };
-    ExitCode::from(offline(rt.alloc(), &words, &mut input, &mut out))
+    ExitCode::from(offline(alloc, &words, &mut input, &mut out))
 }
