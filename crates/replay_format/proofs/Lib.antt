@@ -1,3 +1,4 @@
 pub mod Formats
 pub mod RecordFacts
 pub mod AnswerFacts
+pub mod WholeFacts

@@ -5,6 +5,7 @@ mod answer;
 mod code;
 mod fields;
 mod record;
+mod whole;
 
 pub use answer::{Outcome, REPLY_AT, frame_reply, write_outcome};
 pub use code::{BAD_HMAC, DUPLICATE, FULL, MODE_CLASH, NO_KEY, NO_SESSION, OPENED, SHORT};
