@@ -19,7 +19,7 @@ use replay_format::{
     BAD_HMAC, DUPLICATE, FULL, MODE_CLASH, NO_KEY, NO_SESSION, OPENED, Outcome, Record, SHORT,
     write_outcome,
 };
-use session_key::matches;
+use session_key::Query;
 use std::alloc::Global;
 use std::marker::Model;
 
@@ -77,8 +77,8 @@ fn has_clash(list: &[Session], key: &Key) -> bool
 fn place_of(list: &[Session], meta: &Meta, octets: &[u8]) -> Option<usize>
     ensures { result ≡ position (λ s. matches (query_of meta.now.local meta.now.peer octets.now) s.key) list.now }
 {
-    list.iter()
-        .position(|session| matches(meta, octets, &session.key))
+    let query = Query::of(meta, octets);
+    list.iter().position(|session| query.matches(&session.key))
 }
 
 /// The code of an opening, by what is known of its key.
