@@ -5,13 +5,14 @@ import pathlib
 import pty
 import select
 import subprocess
+import threading
 import tty
 
 from hex_text import octets
 from records import *
 
 TOP = pathlib.Path(__file__).resolve().parent.parent
-SECONDS = 60
+SECONDS = 30
 PIPE = subprocess.PIPE
 CASES = []
 
@@ -27,12 +28,21 @@ def cases():
 
 def start(program, words=("replay",), **streams):
     streams = {"stdin": PIPE, "stdout": PIPE, "stderr": PIPE, "bufsize": 0} | streams
-    return subprocess.Popen([program, *words], **streams)
+    process = subprocess.Popen([program, *words], **streams)
+    # A program that hangs is ended, so that no read or write here waits for ever.
+    watch = threading.Timer(SECONDS, process.kill)
+    watch.daemon = True
+    watch.start()
+    return process
 
 
 def ends(process, status):
     """What is wrong with how a program ended."""
-    found = process.wait(timeout=SECONDS)
+    try:
+        found = process.wait(timeout=SECONDS)
+    except subprocess.TimeoutExpired:
+        process.kill()
+        raise
     return None if found == status else f"status {found} in place of {status}"
 
 
@@ -161,7 +171,8 @@ def the_answers_before_a_slow_record_are_seen(program):
     wrong = differs("before", take(process.stdout, len(wanted)), wanted)
     process.stdin.write(datagram(PLAIN_REQUEST)[60:])
     process.stdin.close()
-    return wrong or differs("behind", process.stdout.read(), reflected(1, plain_reply(1))) or ends(process, 0)
+    behind = reflected(1, plain_reply(1))
+    return wrong or differs("behind", process.stdout.read(), behind) or ends(process, 0)
 
 
 @case
@@ -285,7 +296,8 @@ OUTSIDE = [
     ("symmetrical 2", opening(mode=TWAMP, ssid=0, extra=b"\2\0\0")),
     ("a symmetrical plain session", opening(extra=b"\1\0\0")),
     ("a plain session with octets to reflect", opening(extra=b"\0\0\1")),
-    ("an authenticated one with octets to reflect", opening(AUTHENTICATED, flags=5, key=KEY, extra=b"\0\1\0")),
+    ("a symmetrical authenticated session", opening(AUTHENTICATED, flags=5, key=KEY, extra=b"\1\0\0")),
+    ("an authenticated session with octets to reflect", opening(AUTHENTICATED, flags=5, key=KEY, extra=b"\0\1\0")),
     ("configuration flag 10", opening(flags=0x11)),
     ("configuration flag 80", opening(flags=0x81)),
     ("scale 64", changed(opening(), OPEN_SCALE, b"\x40")),
@@ -438,6 +450,47 @@ def a_long_stream_is_answered_in_bounded_memory(program):
     return None if used.ru_maxrss < 64 * 1024 else f"{used.ru_maxrss} KiB of memory"
 
 
+STREAM_LIMIT = 1 << 30
+
+
+def streamed(program, last):
+    """The answers to datagrams without a session up to near the limit, and then to the last octets."""
+    one = datagram(bytes(65_507))
+    whole = STREAM_LIMIT // len(one)
+    process = start(program)
+    process.stdin.write(one)
+    found = [take(process.stdout, 6)]
+    for _ in range(whole // 19):
+        process.stdin.write(one * 19)
+        found.append(take(process.stdout, 6 * 19))
+    for _ in range(whole % 19 - 1):
+        process.stdin.write(one)
+        found.append(take(process.stdout, 6))
+    assert b"".join(found) == silent(NO_SESSION) * whole, "another answer than NoSession"
+    process.stdin.write(last(STREAM_LIMIT - whole * len(one)))
+    process.stdin.close()
+    return process.stdout.read(), process.wait(timeout=SECONDS)
+
+
+def ending_with(octets_given):
+    """A datagram record of so many octets."""
+    return datagram(bytes(octets_given - len(datagram(b""))))
+
+
+@case
+def a_stream_of_2_30_octets_is_answered_and_one_more_leaves_the_grammar(program):
+    found = streamed(program, lambda room: ending_with(room) + b"\4")
+    wanted = (silent(NO_SESSION) + grammar_left(STREAM_LIMIT), 6)
+    return None if found == wanted else f"{found[0].hex()} and status {found[1]}"
+
+
+@case
+def a_record_whose_last_octet_passes_the_limit_leaves_the_grammar(program):
+    found = streamed(program, lambda room: ending_with(room + 1))
+    wanted = (grammar_left(STREAM_LIMIT - STREAM_LIMIT % len(datagram(bytes(65_507)))), 6)
+    return None if found == wanted else f"{found[0].hex()} and status {found[1]}"
+
+
 # ---- the example
 
 
@@ -449,8 +502,13 @@ def the_example_is_what_its_text_says(program):
 
 @case
 def the_demo_prints_each_answer(program):
-    ended = subprocess.run([TOP / "demo"], env=os.environ | {"STAMPD": program}, capture_output=True, text=True, timeout=SECONDS)
-    for wanted in ("opened", "number 0 drawn", "no reply: bad HMAC", "no reply: no session", "deadbeef", "status 0"):
+    ended = subprocess.run(
+        [TOP / "demo"], env=os.environ | {"STAMPD": program},
+        capture_output=True, text=True, timeout=SECONDS,
+    )
+    for wanted in (
+        "opened", "number 0 drawn", "no reply: bad HMAC", "no reply: no session", "deadbeef", "status 0",
+    ):
         if wanted not in ended.stdout:
             return f"nothing says '{wanted}'"
     return None if ended.returncode == 0 else f"status {ended.returncode} in place of 0"
