@@ -111,80 +111,169 @@ mod tests {
         ttl: 255,
     };
 
-    #[test]
-    fn a_reply_has_its_length_and_reflects_as_much_as_it_may(rt: HostRuntime) -> Result<(), Fail> {
-        // symmetrical, reflect, length of the request, length of the reply, octets reflected
-        let cases: [(bool, u16, usize, usize, usize); 48] = [
-            (false, 0, 14, 41, 0),
-            (false, 0, 40, 41, 0),
-            (false, 0, 41, 41, 0),
-            (false, 0, 45, 45, 0),
-            (false, 0, 100, 100, 0),
-            (false, 0, 65507, 65507, 0),
-            (false, 4, 14, 41, 0),
-            (false, 4, 40, 45, 4),
-            (false, 4, 41, 45, 4),
-            (false, 4, 45, 45, 4),
-            (false, 4, 100, 100, 4),
-            (false, 4, 65507, 65507, 4),
-            (false, 65466, 14, 41, 0),
-            (false, 65466, 40, 67, 26),
-            (false, 65466, 41, 68, 27),
-            (false, 65466, 45, 72, 31),
-            (false, 65466, 100, 127, 86),
-            (false, 65466, 65507, 65507, 65466),
-            (false, 65535, 14, 41, 0),
-            (false, 65535, 40, 67, 26),
-            (false, 65535, 41, 68, 27),
-            (false, 65535, 45, 72, 31),
-            (false, 65535, 100, 127, 86),
-            (false, 65535, 65507, 65507, 65466),
-            (true, 0, 14, 41, 0),
-            (true, 0, 40, 41, 0),
-            (true, 0, 41, 41, 0),
-            (true, 0, 45, 45, 0),
-            (true, 0, 100, 100, 0),
-            (true, 0, 65507, 65507, 0),
-            (true, 4, 14, 41, 0),
-            (true, 4, 40, 41, 0),
-            (true, 4, 41, 41, 0),
-            (true, 4, 45, 45, 4),
-            (true, 4, 100, 100, 4),
-            (true, 4, 65507, 65507, 4),
-            (true, 65466, 14, 41, 0),
-            (true, 65466, 40, 41, 0),
-            (true, 65466, 41, 41, 0),
-            (true, 65466, 45, 45, 4),
-            (true, 65466, 100, 100, 59),
-            (true, 65466, 65507, 65507, 65466),
-            (true, 65535, 14, 41, 0),
-            (true, 65535, 40, 41, 0),
-            (true, 65535, 41, 41, 0),
-            (true, 65535, 45, 45, 4),
-            (true, 65535, 100, 100, 59),
-            (true, 65535, 65507, 65507, 65466),
-        ];
+    /// Octets of a reply, of a request's padding in it, and left as they were behind it.
+    fn lengths(rt: HostRuntime, extra: &Extra, len: usize) -> Result<(usize, usize, usize), Fail> {
+        let input = vec![in rt.alloc(); 0x11; len]?;
         let mut out = vec![in rt.alloc(); 0xEE; 65_536]?;
-        for (symmetrical, reflect, len, want, reflected) in cases {
-            let extra = Extra {
-                symmetrical,
-                reflect,
-            };
-            let input = vec![in rt.alloc(); 0x11; len]?;
-            if input.len() < 14 || input.len() > 65_507 {
-                return Err("a length".into());
-            }
-            out.fill(0xEE);
-            let got = write_test(&extra, &REPLY, &input, &mut out);
-            assert_eq!(rt; got, want);
-            assert_eq!(rt;
-                out.iter().filter(|octet| **octet == 0x11).count(),
-                reflected
-            );
-            assert_eq!(rt;
-                out.iter().filter(|octet| **octet == 0xEE).count(),
-                65_536 - want
-            );
+        if input.len() < 14 || input.len() > 65_507 || out.len() < 65_536 {
+            return Err("a length".into());
+        }
+        let written = write_test(extra, &REPLY, &input, &mut out);
+        let reflected = out.iter().filter(|octet| **octet == 0x11).count();
+        let untouched = out.iter().filter(|octet| **octet == 0xEE).count();
+        Ok((written, reflected, untouched))
+    }
+
+    #[test]
+    fn padding_is_zeros(rt: HostRuntime) -> Result<(), Fail> {
+        let extra = Extra {
+            symmetrical: false,
+            reflect: 0,
+        };
+        for (len, want, reflected) in [
+            (14, 41, 0),
+            (40, 41, 0),
+            (41, 41, 0),
+            (45, 45, 0),
+            (100, 100, 0),
+            (65507, 65507, 0),
+        ] {
+            assert_eq!(rt; lengths(rt, &extra, len)?, (want, reflected, 65_536 - want));
+        }
+        Ok(())
+    }
+
+    #[test]
+    fn a_front_of_the_padding_is_reflected(rt: HostRuntime) -> Result<(), Fail> {
+        let extra = Extra {
+            symmetrical: false,
+            reflect: 4,
+        };
+        for (len, want, reflected) in [
+            (14, 41, 0),
+            (40, 45, 4),
+            (41, 45, 4),
+            (45, 45, 4),
+            (100, 100, 4),
+            (65507, 65507, 4),
+        ] {
+            assert_eq!(rt; lengths(rt, &extra, len)?, (want, reflected, 65_536 - want));
+        }
+        Ok(())
+    }
+
+    #[test]
+    fn all_padding_is_reflected(rt: HostRuntime) -> Result<(), Fail> {
+        let extra = Extra {
+            symmetrical: false,
+            reflect: 65466,
+        };
+        for (len, want, reflected) in [
+            (14, 41, 0),
+            (40, 67, 26),
+            (41, 68, 27),
+            (45, 72, 31),
+            (100, 127, 86),
+            (65507, 65507, 65466),
+        ] {
+            assert_eq!(rt; lengths(rt, &extra, len)?, (want, reflected, 65_536 - want));
+        }
+        Ok(())
+    }
+
+    #[test]
+    fn what_a_reply_has_no_room_for_is_not_reflected(rt: HostRuntime) -> Result<(), Fail> {
+        let extra = Extra {
+            symmetrical: false,
+            reflect: 65535,
+        };
+        for (len, want, reflected) in [
+            (14, 41, 0),
+            (40, 67, 26),
+            (41, 68, 27),
+            (45, 72, 31),
+            (100, 127, 86),
+            (65507, 65507, 65466),
+        ] {
+            assert_eq!(rt; lengths(rt, &extra, len)?, (want, reflected, 65_536 - want));
+        }
+        Ok(())
+    }
+
+    #[test]
+    fn symmetrical_padding_is_zeros(rt: HostRuntime) -> Result<(), Fail> {
+        let extra = Extra {
+            symmetrical: true,
+            reflect: 0,
+        };
+        for (len, want, reflected) in [
+            (14, 41, 0),
+            (40, 41, 0),
+            (41, 41, 0),
+            (45, 45, 0),
+            (100, 100, 0),
+            (65507, 65507, 0),
+        ] {
+            assert_eq!(rt; lengths(rt, &extra, len)?, (want, reflected, 65_536 - want));
+        }
+        Ok(())
+    }
+
+    #[test]
+    fn a_front_of_symmetrical_padding_is_reflected(rt: HostRuntime) -> Result<(), Fail> {
+        let extra = Extra {
+            symmetrical: true,
+            reflect: 4,
+        };
+        for (len, want, reflected) in [
+            (14, 41, 0),
+            (40, 41, 0),
+            (41, 41, 0),
+            (45, 45, 4),
+            (100, 100, 4),
+            (65507, 65507, 4),
+        ] {
+            assert_eq!(rt; lengths(rt, &extra, len)?, (want, reflected, 65_536 - want));
+        }
+        Ok(())
+    }
+
+    #[test]
+    fn all_symmetrical_padding_is_reflected(rt: HostRuntime) -> Result<(), Fail> {
+        let extra = Extra {
+            symmetrical: true,
+            reflect: 65466,
+        };
+        for (len, want, reflected) in [
+            (14, 41, 0),
+            (40, 41, 0),
+            (41, 41, 0),
+            (45, 45, 4),
+            (100, 100, 59),
+            (65507, 65507, 65466),
+        ] {
+            assert_eq!(rt; lengths(rt, &extra, len)?, (want, reflected, 65_536 - want));
+        }
+        Ok(())
+    }
+
+    #[test]
+    fn what_a_reply_has_no_room_for_is_not_reflected_of_symmetrical_padding(
+        rt: HostRuntime,
+    ) -> Result<(), Fail> {
+        let extra = Extra {
+            symmetrical: true,
+            reflect: 65535,
+        };
+        for (len, want, reflected) in [
+            (14, 41, 0),
+            (40, 41, 0),
+            (41, 41, 0),
+            (45, 45, 4),
+            (100, 100, 59),
+            (65507, 65507, 65466),
+        ] {
+            assert_eq!(rt; lengths(rt, &extra, len)?, (want, reflected, 65_536 - want));
         }
         Ok(())
     }
