@@ -1,6 +1,7 @@
 //! A source and a sink in memory. The numbers of the calls that fail are given, counted from 1.
 
-ghost use Rattle.std.specs.Prelude.{◌≡◌, ◌<◌, ◌≤◌, [], length, drop, take, Some, IfOk};
+ghost use Rattle.std.specs.Prelude.{◌≡◌, ◌<◌, ◌≤◌, [], length, drop, take, Some, IsTrue, ◌↔◌, IfOk, IsOk};
+ghost use Rattle.port_io.specs.Memory.{fails};
 ghost use Rattle.std.specs.Io.KnownBytes.{Appends};
 
 use crate::outside::{Failed, Sink, Source};
@@ -34,7 +35,8 @@ impl MemSource {
 
     /// A source of these octets. It takes no memory of its own.
     pub fn make(_alloc: Global, octets: Vec<u8>, failing: Vec<u64>) -> Result<MemSource, Memory>
-        ensures { IfOk result (λ s. s ≡ record { left = octets.items; failing = failing.items; calls = 0; faults = 0 }) }
+        ensures always { IsOk result }
+        ensures value { IfOk result (λ s. s ≡ record { left = octets.items; failing = failing.items; calls = 0; faults = 0 }) }
     {
         Ok(MemSource {
             octets,
@@ -66,7 +68,7 @@ impl Source for MemSource {
         ensures calls { self.new.calls ≡ counted self.old.calls }
     {
         self.calls = self.calls.saturating_add(1);
-        if self.failing.contains(&self.calls) {
+        if is_planned(&self.failing, self.calls) {
             self.faults = self.faults.saturating_add(1);
             return Err(Failed);
         }
@@ -74,6 +76,13 @@ impl Source for MemSource {
         self.at += count;
         Ok(count)
     }
+}
+
+/// Whether the call of that number is one that fails.
+fn is_planned(failing: &[u64], call: u64) -> bool
+    ensures { IsTrue result ↔ IsTrue (fails failing.now call) }
+{
+    failing.contains(&call)
 }
 
 /// Copies as many octets as there are and as there is room for.
@@ -137,7 +146,7 @@ impl MemSink {
 }
 
 impl Sink for MemSink {
-    ghost use Rattle.std.specs.Prelude.{◌≡◌, ◌<◌, ◌≤◌, length, Some, IsTrue, IsErr, IfOk, OnErr};
+    ghost use Rattle.std.specs.Prelude.{◌≡◌, ◌<◌, ◌≤◌, ◌+◌, ◌↔◌, ◌⊎◌, length, Some, IsTrue, IsErr, IfOk, OnErr};
     ghost use Rattle.std.specs.Io.KnownBytes.{WriteAppends};
     ghost use Rattle.port_io.specs.Outside.{Rises};
     ghost use Rattle.port_io.specs.Memory.{SinkState, counted, fails};
@@ -152,20 +161,23 @@ impl Sink for MemSink {
         ensures octets { WriteAppends (Some self.old.written) (Some self.new.written) result octets.now }
         ensures count { self.old.faults ≤ self.new.faults }
         ensures cause { OnErr result (Rises self.old.faults self.new.faults) }
-        ensures planned { IsTrue (fails self.old.failing (counted self.old.calls)) → IsErr result }
+        ensures whole { IfOk result (λ n. n ≡ length octets.now) }
+        // Just the planned calls fail, and those for whose octets there is no room.
+        ensures planned { IsErr result ↔ (IsTrue (fails self.old.failing (counted self.old.calls)) ⊎ self.old.room < length self.old.written + length octets.now) }
         ensures calls { self.new.calls ≡ counted self.old.calls }
     {
         self.calls = self.calls.saturating_add(1);
-        if octets.len() > self.room - self.octets.len() || self.failing.contains(&self.calls) {
+        if is_planned(&self.failing, self.calls) {
             self.faults = self.faults.saturating_add(1);
             return Err(Failed);
         }
-        match self.octets.extend_from_slice(octets) {
-            Ok(()) => Ok(octets.len()),
-            Err(_) => {
-                self.faults = self.faults.saturating_add(1);
-                Err(Failed)
-            }
+        if octets.len() > self.room - self.octets.len() {
+            self.faults = self.faults.saturating_add(1);
+            return Err(Failed);
         }
+        if self.octets.extend_from_slice(octets).is_err() {
+            unreachable!();
+        }
+        Ok(octets.len())
     }
 }

@@ -1,6 +1,6 @@
 //! The standard streams.
 
-ghost use Rattle.std.specs.Prelude.{◌≡◌, IfOk};
+ghost use Rattle.std.specs.Prelude.{◌≡◌, IfOk, IsOk};
 
 use crate::outside::{Failed, Sink, Source};
 use refl_types::Memory;
@@ -17,7 +17,8 @@ pub struct StdSource<T> {
 impl<T: Read + Drop> StdSource<T> {
     /// The standard input.
     pub fn make<R: Input<Reader = T> + Drop>(rt: R, _alloc: Global) -> Result<StdSource<T>, Memory>
-        ensures { IfOk result (λ s. s.faults ≡ 0) }
+        ensures always { IsOk result }
+        ensures value { IfOk result (λ s. s.faults ≡ 0) }
     {
         Ok(StdSource {
             reader: rt.reader(),
@@ -68,7 +69,8 @@ pub struct StdSink<W> {
 impl<R: Print + Drop> StdSink<Output<R>> {
     /// The standard output.
     pub fn make(rt: R, _alloc: Global) -> Result<StdSink<Output<R>>, Memory>
-        ensures { IfOk result (λ s. s.faults ≡ 0) }
+        ensures always { IsOk result }
+        ensures value { IfOk result (λ s. s.faults ≡ 0) }
     {
         Ok(StdSink {
             writer: Output { rt },

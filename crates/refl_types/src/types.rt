@@ -10,6 +10,36 @@ pub enum Address {
     V6([u8; 16]),
 }
 
+impl Address {
+    ghost use Rattle.std.specs.Prelude.{length};
+    ghost use Rattle.refl_types.specs.Spelling.{address_octets, family};
+
+    /// The number of its family: 4 or 6.
+    #[inline]
+    pub fn family(&self) -> u8
+        ensures { result ≡ family self.now }
+    {
+        match self {
+            Address::V4(_) => 4,
+            Address::V6(_) => 6,
+        }
+    }
+
+    /// Its octets, 16 for each family: those of an IPv4 address come first.
+    #[inline]
+    pub fn octets(&self) -> [u8; 16]
+        ensures value { result ≡ address_octets self.now }
+        ensures len { length (address_octets self.now) ≡ 16 }
+    {
+        let mut octets = [0; 16];
+        match self {
+            Address::V4(four) => octets[..4].copy_from_slice(four),
+            Address::V6(all) => octets.copy_from_slice(all),
+        }
+        octets
+    }
+}
+
 /// An address and a UDP or TCP port.
 #[derive(Clone, Copy, Debug, PartialEq, Eq)]
 pub struct Endpoint {

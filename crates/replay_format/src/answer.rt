@@ -1,11 +1,10 @@
 //! Answers are written in octets.
 
 ghost use Rattle.std.specs.Prelude.{ℕ, List, ◌≡◌, ◌+◌, ◌≤◌, ◌++◌, length, take, drop};
-ghost use Rattle.refl_types.specs.Spelling.{family, address_octets};
 ghost use Rattle.replay_format.specs.Answers.{sent_octets, answer_of, answer_octets, answer_len, FitsAnswer};
 
 use octet_format::put;
-use refl_types::{Address, Endpoint};
+use refl_types::Endpoint;
 
 /// What a record is answered.
 #[derive(Clone, Copy, Debug)]
@@ -25,26 +24,6 @@ pub enum Outcome<'a> {
     Left(u64),
 }
 
-/// The family of an address and its 16 octets, an IPv4 address in the first four.
-fn address_fields(address: &Address) -> (u8, [u8; 16])
-    ensures family { result.0 ≡ family address.now }
-    ensures octets { result.1 ≡ address_octets address.now }
-    ensures len { length (address_octets address.now) ≡ 16 }
-{
-    match address {
-        Address::V4(octets) => {
-            let mut wide = [0; 16];
-            wide[..4].copy_from_slice(octets);
-            (4, wide)
-        }
-        Address::V6(octets) => {
-            let mut wide = [0; 16];
-            wide.copy_from_slice(octets);
-            (6, wide)
-        }
-    }
-}
-
 /// Octets of an answer before the reply that it has.
 pub const REPLY_AT: usize = 31;
 
@@ -56,13 +35,12 @@ pub fn frame_reply(from: u16, to: &Endpoint, number: u32, len: usize, out: &mut 
     ensures octets { out.new ≡ sent_octets (record { from = from; to = to.now; number = number; octets = take len (drop 31 out.old) }) ++ drop (31 + len) out.old }
     ensures len { (octets : List ℕ) → length (sent_octets (record { from = from; to = to.now; number = number; octets = octets })) ≡ 31 + length octets }
 {
-    let (family, address) = address_fields(&to.address);
     put(out, 0, &[132]);
     put(out, 1, &(26 + len as u32).to_be_bytes());
     put(out, 5, &[0]);
     put(out, 6, &from.to_be_bytes());
-    put(out, 8, &[family]);
-    put(out, 9, &address);
+    put(out, 8, &[to.address.family()]);
+    put(out, 9, &to.address.octets());
     put(out, 25, &to.port.to_be_bytes());
     put(out, 27, &number.to_be_bytes());
 }

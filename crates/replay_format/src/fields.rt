@@ -173,7 +173,7 @@ pub fn config_parts_at(octets: &[u8]) -> Result<(ConfigParts, &[u8]), Unread>
     let (tlvs, rest) = tlvs_at(rest)?;
     let (key, rest) = block_at((flags / 4) % 2 == 1, rest)?;
     let parts = ConfigParts {
-        stateful: (flags / 1) % 2 == 1,
+        stateful: flags % 2 == 1,
         clock: if (flags / 2) % 2 == 1 {
             Clock::Ptp
         } else {

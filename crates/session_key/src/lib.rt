@@ -3,7 +3,6 @@
 
 mod laws;
 mod matching;
-mod octets;
 mod placing;
 mod words;
 

@@ -3,7 +3,6 @@
 ghost use Rattle.std.specs.Prelude.{◌≡◌, ◌<◌};
 ghost use Rattle.session_key.specs.Placing.{fnv_from, place_of};
 
-use crate::octets::{address_octets, family};
 use refl_types::Endpoint;
 
 const FNV_OFFSET: u64 = 14695981039346656037;
@@ -26,10 +25,9 @@ pub fn place(local: u16, peer: &Endpoint, slots: u32) -> u32
     ensures value { result ≡ place_of local peer.now slots }
     ensures range { result < slots }
 {
-    let (octets, _) = address_octets(&peer.address);
     let mut hash = fnv_from(FNV_OFFSET, &local.to_be_bytes());
-    hash = fnv_from(hash, &[family(&peer.address)]);
-    hash = fnv_from(hash, &octets);
+    hash = fnv_from(hash, &[peer.address.family()]);
+    hash = fnv_from(hash, &peer.address.octets());
     hash = fnv_from(hash, &peer.port.to_be_bytes());
     (hash % u64::from(slots)) as u32
 }

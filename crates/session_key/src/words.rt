@@ -1,12 +1,11 @@
 //! A key and its extra in four words.
 
 ghost use Rattle.std.specs.Prelude.{◌≡◌, ◌<◌, ◌^◌, true};
-ghost use Rattle.session_key.specs.Words.{key_words, AreKeyWords, key_of_words, extra_of_words, address_of, mode_of, ends_word, extra_word};
+ghost use Rattle.session_key.specs.Words.{is_v6, key_words, AreKeyWords, key_of_words, extra_of_words, address_of, mode_of, ends_word, extra_word};
 ghost use Rattle.octet_format.specs.Octets.{IsArray, IsBytes};
 ghost use Rattle.refl_types.specs.Keys.{is_sound};
 ghost use Rattle.refl_types.specs.Spelling.{mode_code, FitsAddress, FitsKey};
 
-use crate::octets::address_octets;
 use byteorder::{BigEndian, ByteOrder};
 use refl_types::{Address, Endpoint, Extra, Key, Mode};
 
@@ -29,6 +28,12 @@ fn mode_of(code: u64) -> Mode
         1 => Mode::Auth,
         _ => Mode::Twamp,
     }
+}
+
+fn is_v6(address: &Address) -> bool
+    ensures { result ≡ is_v6 address.now }
+{
+    matches!(address, Address::V6(_))
 }
 
 fn address_of(first: u64, second: u64, is_v6: bool) -> Address
@@ -109,7 +114,8 @@ pub fn key_words(key: &Key, extra: &Extra) -> [u64; 4]
 {
     key_fits(key);
     number_fits(extra.reflect);
-    let (octets, is_v6) = address_octets(&key.peer.address);
+    let octets = key.peer.address.octets();
+    let is_v6 = is_v6(&key.peer.address);
     [
         BigEndian::read_u64(&octets),
         BigEndian::read_u64(&octets[8..]),

@@ -14,7 +14,7 @@ returns-clause-value c =
     let p = to_be_bytes w16 c.args.peer.now.port in
     let one = c.fnv_from-hash.ensures ∙ ap (fnv_from 14695981039346656037) c.to_be_bytes.ensures in
     let two = c.fnv_from-hash-2.ensures ∙ ((λ i. fnv_from (one i) (c.family.ensures i ∷ [])) ∙ sym (fnv_parts 14695981039346656037 a f)) in
-    let three = c.fnv_from-hash-3.ensures ∙ ((λ i. fnv_from (two i) (c.address_octets.ensures.octets i)) ∙ sym (fnv_parts 14695981039346656037 (a ++ f) o)) in
+    let three = c.fnv_from-hash-3.ensures ∙ ((λ i. fnv_from (two i) (c.octets.ensures.value i)) ∙ sym (fnv_parts 14695981039346656037 (a ++ f) o)) in
     let four = c.fnv_from-hash-4.ensures ∙ ((λ i. fnv_from (three i) (c.to_be_bytes-2.ensures i)) ∙ sym (fnv_parts 14695981039346656037 ((a ++ f) ++ o) p)) in
     let whole : ((a ++ f) ++ o) ++ p ≡ a ++ ((f ++ o) ++ p) = simp append_assoc in
     λ i. (four ∙ ap (fnv_from 14695981039346656037) whole) i % c.from.ensures i

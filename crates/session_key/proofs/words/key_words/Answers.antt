@@ -20,10 +20,10 @@ pub returns-clause-value : goal.returns-clause-value
 unfolding key_words
 returns-clause-value c =
     let k = c.args.key.now in
-    let o = c.address_octets-is_v6.result.0 in
-    let first = word_of o (address_octets k.peer.address) c.read_u64.result c.address_octets-is_v6.ensures.octets c.read_u64.ensures in
-    let second = rest_of o (address_octets k.peer.address) c.read_u64-2.result c.address_octets-is_v6.ensures.octets c.read_u64-2.ensures in
-    let third = c.ends_word.ensures ∙ ap (λ (v : Bool). ends_word k.peer.port k.ssid k.local k.mode v) c.address_octets-is_v6.ensures.family in
+    let o = c.octets-octets.result in
+    let first = word_of o (address_octets k.peer.address) c.read_u64.result c.octets-octets.ensures.value c.read_u64.ensures in
+    let second = rest_of o (address_octets k.peer.address) c.read_u64-2.result c.octets-octets.ensures.value c.read_u64-2.ensures in
+    let third = c.ends_word.ensures ∙ ap (λ (v : Bool). ends_word k.peer.port k.ssid k.local k.mode v) c.is_v6-is_v6.ensures in
     let fourth = c.extra_word.ensures in
     λ i. first i ∷ second i ∷ third i ∷ fourth i ∷ []
 
