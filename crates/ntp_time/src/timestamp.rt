@@ -13,6 +13,7 @@ const NTP_SECONDS: u64 = 2_208_988_800;
 
 /// A moment, in nanoseconds since the start of 1970, in a clock's format. `offset` seconds are added in the PTP
 /// format alone. Seconds are taken modulo 2^32, and a fraction is rounded down.
+#[inline(always)]
 pub fn stamp(clock: Clock, offset: u8, nanos: u64) -> [u8; 8]
     ensures { result ≡ timestamp clock offset nanos }
 {
@@ -22,11 +23,10 @@ pub fn stamp(clock: Clock, offset: u8, nanos: u64) -> [u8; 8]
         Clock::Ntp => ((whole + NTP_SECONDS) % (1 << 32), over * (1 << 32) / NANOS),
         Clock::Ptp => ((whole + u64::from(offset)) % (1 << 32), over),
     };
-    let high = (seconds as u32).to_be_bytes();
-    let low = (fraction as u32).to_be_bytes();
-    [
-        high[0], high[1], high[2], high[3], low[0], low[1], low[2], low[3],
-    ]
+    let mut octets = [0; 8];
+    octets[..4].copy_from_slice(&(seconds as u32).to_be_bytes());
+    octets[4..].copy_from_slice(&(fraction as u32).to_be_bytes());
+    octets
 }
 
 #[cfg(test)]

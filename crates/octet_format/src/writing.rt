@@ -3,10 +3,14 @@
 ghost use Rattle.std.specs.Prelude.{◌≡◌, ◌+◌, ◌≤◌, ◌++◌, length, take, drop};
 
 /// Writes a field at a place. All other octets stay.
-#[inline]
+#[inline(always)]
 pub fn put(out: &mut [u8], at: usize, field: &[u8])
     requires { at + length field.now ≤ length out.old }
     ensures { out.new ≡ take at out.old ++ field.now ++ drop (at + length field.now) out.old }
 {
+    // An empty field isn't worth the call of a copy.
+    if field.is_empty() {
+        return;
+    }
     out[at..at + field.len()].copy_from_slice(field);
 }

@@ -34,7 +34,7 @@ fn sequence_of(parts: &ConfigParts, n: u32, sender: &SenderBase) -> u32
 }
 
 /// The fields of the reply to a request, with the number `n` that was drawn and the moment `t3` of sending.
-#[inline]
+#[inline(always)]
 #[tactic(auto, unfolding(crate::specs::Base::reply_base))]
 pub fn reply_base(
     parts: &ConfigParts,

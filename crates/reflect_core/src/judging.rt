@@ -32,6 +32,7 @@ fn judge_length(octets: &[u8], least: usize) -> Judged
     }
 }
 
+#[inline(never)]
 fn judge_auth(config: &Config, octets: &[u8]) -> Judged
     requires { HasKey Mode.Auth config.now }
     ensures { result ≡ judgement Mode.Auth config.now octets.now }
@@ -48,7 +49,7 @@ fn judge_auth(config: &Config, octets: &[u8]) -> Judged
 
 /// Whether a datagram of a session is reflected: not where it is shorter than the base packet of the session's mode,
 /// and in mode Auth not where the HMAC of its base packet is another.
-#[inline]
+#[inline(always)]
 pub fn judge(key: &Key, config: &Config, octets: &[u8]) -> Judged
     requires { HasKey key.now.mode config.now }
     ensures { result ≡ judgement key.now.mode config.now octets.now }

@@ -31,7 +31,7 @@ pub struct Reply {
 }
 
 /// Writes the reply of an unauthenticated STAMP session.
-#[inline]
+#[inline(always)]
 fn reflect_plain(
     config: &Config,
     n: u32,
@@ -74,10 +74,11 @@ fn reflect_auth(
 }
 
 /// Writes the reply of an authenticated STAMP session.
+#[inline(never)]
 fn reflect_auth_session(
     config: &Config,
     n: u32,
-    meta: &Meta,
+    meta: Meta,
     t3: u64,
     input: &[u8],
     out: &mut [u8],
@@ -86,20 +87,21 @@ fn reflect_auth_session(
     requires judged { 112 ≤ length input.now }
     requires room { length input.now ≤ length out.old }
     ensures len { result ≡ length input.now }
-    ensures octets { WritesAuth config.now n meta.now t3 input.now out.old out.new }
+    ensures octets { WritesAuth config.now n meta t3 input.now out.old out.new }
 {
     if let Some(block) = &config.as_parts().key {
-        reflect_auth(block, config, n, meta, t3, input, out);
+        reflect_auth(block, config, n, &meta, t3, input, out);
     }
     input.len()
 }
 
 /// Writes the reply of a TWAMP-Test session.
+#[inline(never)]
 fn reflect_test(
     extra: &Extra,
     config: &Config,
     n: u32,
-    meta: &Meta,
+    meta: Meta,
     t3: u64,
     input: &[u8],
     out: &mut [u8],
@@ -108,16 +110,16 @@ fn reflect_test(
     requires limit { length input.now ≤ 65507 }
     requires room { 65536 ≤ length out.old }
     ensures limit { result ≤ 65507 }
-    ensures octets { WritesTest extra.now config.now n meta.now t3 input.now result out.old out.new }
+    ensures octets { WritesTest extra.now config.now n meta t3 input.now result out.old out.new }
 {
     let sender = read_test(input).unwrap();
-    let base = reply_base(config.as_parts(), n, meta, t3, &sender);
+    let base = reply_base(config.as_parts(), n, &meta, t3, &sender);
     write_test(extra, &base, input, out)
 }
 
 /// Writes the reply to a datagram that is to be reflected, with the number `n` that was drawn for it, modulo 2^32, and
 /// the moment `t3` of sending, in nanoseconds since the start of 1970. Octets of the buffer past the reply stay.
-#[inline]
+#[inline(always)]
 pub fn reflect(
     key: &Key,
     extra: &Extra,
@@ -138,8 +140,8 @@ pub fn reflect(
 {
     let len = match key.mode {
         Mode::Plain => reflect_plain(config, n, meta, t3, input, out),
-        Mode::Twamp => reflect_test(extra, config, n, meta, t3, input, out),
-        Mode::Auth => reflect_auth_session(config, n, meta, t3, input, out),
+        Mode::Twamp => reflect_test(extra, config, n, *meta, t3, input, out),
+        Mode::Auth => reflect_auth_session(config, n, *meta, t3, input, out),
     };
     Reply {
         from: meta.local,

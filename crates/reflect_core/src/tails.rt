@@ -52,6 +52,7 @@ fn write_rest(rest: &[u8], flags: u8, at: usize, out: &mut [u8])
 }
 
 /// Writes a tail whose integrity failed: as received, with the I flag in each TLV.
+#[inline(never)]
 fn flag_all(tail: &[u8], out: &mut [u8])
     requires { length out.old ≡ length tail.now }
     ensures { out.new ≡ failed_reply (split tail.now) }
@@ -78,6 +79,7 @@ fn rest_flags(config: &Config, rest: &[u8]) -> u8
 }
 
 /// Writes what the reply has for each TLV, up to a malformed one.
+#[inline(never)]
 fn process(config: &Config, n: u32, tail: &[u8], out: &mut [u8])
     requires { length out.old ≡ length tail.now }
     ensures { out.new ≡ processed_reply config.now n (split tail.now) }
@@ -97,6 +99,7 @@ fn process(config: &Config, n: u32, tail: &[u8], out: &mut [u8])
 }
 
 /// Writes the tail of a reply, under the Sequence Numbers of the request and of the reply.
+#[inline(always)]
 pub fn write_tail(
     mode: Mode,
     config: &Config,
@@ -120,6 +123,7 @@ pub fn write_tail(
 }
 
 /// Writes the tail of a reply after its base packet, which has as many octets as the request's.
+#[inline(always)]
 fn write_tail_at(
     mode: Mode,
     config: &Config,
@@ -148,8 +152,8 @@ fn write_tail_at(
     );
 }
 
-/// Writes the tail of a reply after its base packet, if there is one.
-#[inline]
+/// Writes the tail of a reply after its base packet, if there is one. Most datagrams have none.
+#[inline(always)]
 pub fn write_tail_after(
     mode: Mode,
     config: &Config,

@@ -8,7 +8,7 @@ ghost use Rattle.replay_format.specs.Reading.{datagram_at, opening_at, item_at};
 ghost use Rattle.replay_format.specs.View.{item_of, IsParsed, IsMeasured};
 
 use crate::fields::{body_len_at, config_parts_at, endpoint_at, extra_at, key_at, ttl_at};
-use crate::whole::whole_datagram;
+use crate::whole::read_datagram;
 use octet_format::{Unread, octet_in, octets_at, u16_at, u64_at, zeros_at};
 use refl_types::{Config, ConfigParts, Extra, Key, Meta};
 
@@ -107,7 +107,7 @@ pub fn read_record(octets: &[u8]) -> Parsed
     ensures { IsParsed result octets.now }
 {
     // Nearly all records are whole datagrams of IPv4 peers.
-    if let Some((meta, t3, octets, len)) = whole_datagram(octets) {
+    if let Some((meta, t3, octets, len)) = read_datagram(octets) {
         return Parsed::Record(Record::Datagram { meta, t3, octets }, len);
     }
     match record_at(octets) {

@@ -59,7 +59,8 @@ fn meta_of(octets: &[u8], len: usize) -> Option<Meta>
 }
 
 /// Reads the record of a datagram, where one of an IPv4 peer stands whole at the front.
-pub fn whole_datagram(octets: &[u8]) -> Option<(Meta, u64, &[u8], usize)>
+#[inline]
+pub fn read_datagram(octets: &[u8]) -> Option<(Meta, u64, &[u8], usize)>
     ensures front { IfSome result (λ x. IsFront octets.now (Arrives (datagram_of x.0 x.1 x.2.now)) x.3) }
     ensures measured { IfSome result (λ x. x.0.len ≡ length x.2.now) }
 {

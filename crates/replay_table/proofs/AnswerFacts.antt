@@ -1,6 +1,5 @@
 -- What each record is answered, case by case.
-use Rattle.std.proofs.Common.{◌≡◌, ℕ, ◌<◌, ◌≤◌, ◌++◌, Bool, true, false, cond, Result, Ok, Err, eqb, ltb, List, length, drop, Option, Some, None, refl, sym, ap, subst, ◌∙◌, arith}
-use Rattle.std.proofs.lemmas.Bool.{ltb-true, ltb-false}
+use Rattle.std.proofs.Common.{◌≡◌, ℕ, ◌++◌, false, eqb, List, length, drop, Some, None, refl, sym, ap, subst, ◌∙◌, arith}
 use Rattle.std.proofs.lemmas.Bool.Decides.{nat_tests}
 use Rattle.refl_types.specs.declared.outcome.Silent as causes
 use Rattle.reflect_core.specs.declared.judging.Judged.TheVariants.{Reflect, Silent}

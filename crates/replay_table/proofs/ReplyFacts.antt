@@ -1,12 +1,11 @@
 -- The reply under what the code keeps of a session is the reply of the session that it stands for.
-use Rattle.std.proofs.Common.{◌≡◌, ℕ, ◌%◌, ◌^◌, List, length, refl, sym, ap, subst, ◌∙◌}
+use Rattle.std.proofs.Common.{◌≡◌, ℕ, ◌%◌, ◌^◌, List, length, sym, ap, ◌∙◌}
 use Rattle.refl_types.specs.declared.types.Meta.{Meta}
 use Rattle.refl_types.specs.declared.types.Key.{Key}
 use Rattle.refl_types.specs.declared.types.Extra.{Extra}
 use Rattle.refl_types.specs.declared.config.ConfigParts.{ConfigParts}
-use Rattle.reflect_core.specs.Reflection.{Reflected, reflection}
-use Rattle.replay_format.specs.Records.{Datagram, datagram_of}
-use Rattle.replay_format.specs.Answers.{Sending}
+use Rattle.reflect_core.specs.Reflection.{reflection}
+use Rattle.replay_format.specs.Records.{datagram_of}
 use Rattle.replay_table.specs.declared.session.Session.{Session}
 use Rattle.replay_table.specs.Table.{Entry}
 use Rattle.replay_table.specs.Reflection.{sending, sent_under, meta_of}

@@ -15,6 +15,7 @@ use reflect_core::reflect;
 use replay_format::{REPLY_AT, frame_reply};
 
 /// Writes the answer to a datagram that is reflected, reply included, and says how many octets it has.
+#[inline(always)]
 pub fn write_reflection(
     session: &Session,
     meta: &Meta,

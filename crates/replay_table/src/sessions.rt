@@ -1,12 +1,13 @@
 //! The sessions of a replay.
 
-ghost use Rattle.std.specs.Prelude.{ℕ, ◌≡◌, ◌≢◌, ◌<◌, ◌≤◌, ◌==◌, ◌&&◌, ◌++◌, not, [], ◌∷◌, length, vec_len, vec_capacity, position, IfOk};
+ghost use Rattle.std.specs.Prelude.{ℕ, ◌≡◌, ◌≢◌, ◌<◌, ◌≤◌, ◌==◌, ◌&&◌, ◌++◌, not, [], ◌∷◌, drop, length, vec_len, vec_capacity, position, IfOk};
 ghost use Rattle.std.specs.List.{list_any};
 ghost use Rattle.refl_types.specs.Same.{same_endpoint, same_mode, same_key};
 ghost use Rattle.session_key.specs.Matching.{query_of, matches};
 ghost use Rattle.refl_types.specs.declared.types.Extra.{Extra};
 ghost use Rattle.replay_table.specs.Outcomes.{code_of, opening_code};
 ghost use Rattle.replay_format.specs.Records.{Opens, Arrives, datagram_of};
+ghost use Rattle.replay_format.specs.Answers.{Unsent, answer_octets};
 ghost use Rattle.reflect_core.specs.Judgement.{HasKey};
 ghost use Rattle.replay_table.specs.Table.{Table};
 ghost use Rattle.replay_table.specs.Stands.{Stands, IsAnswered, AreKeyed};
@@ -74,6 +75,7 @@ fn has_clash(list: &[Session], key: &Key) -> bool
 }
 
 /// The place of the session that a datagram matches.
+#[inline(always)]
 fn place_of(list: &[Session], meta: &Meta, octets: &[u8]) -> Option<usize>
     ensures { result ≡ position (λ s. matches (query_of meta.now.local meta.now.peer octets.now) s.key) list.now }
 {
@@ -125,7 +127,19 @@ fn keep(list: &mut Vec<Session>, session: Session)
     }
 }
 
+/// Writes why a datagram is not reflected.
+#[cold]
+fn write_unsent(cause: u8, out: &mut [u8]) -> usize
+    requires { 65567 ≤ length out.old }
+    ensures octets { out.new ≡ answer_octets (Unsent cause) ++ drop result out.old }
+    ensures len { result ≡ length (answer_octets (Unsent cause)) }
+    ensures fits { result ≤ 65538 }
+{
+    write_outcome(&Outcome::Unsent(cause), out)
+}
+
 /// Answers a datagram.
+#[inline(always)]
 fn arrive(list: &mut [Session], meta: &Meta, t3: u64, octets: &[u8], out: &mut [u8]) -> usize
     requires keyed { AreKeyed list.old }
     requires measured { meta.now.len ≡ length octets.now }
@@ -136,12 +150,12 @@ fn arrive(list: &mut [Session], meta: &Meta, t3: u64, octets: &[u8], out: &mut [
     ensures answered { (t : Table) → Stands list.old t → IsAnswered t list.new (Arrives (datagram_of meta.now t3 octets.now)) out.old out.new result }
 {
     let Some(place) = place_of(list, meta, octets) else {
-        return write_outcome(&Outcome::Unsent(NO_SESSION), out);
+        return write_unsent(NO_SESSION, out);
     };
     let session = &list[place];
     match judge(&session.key, &session.config, octets) {
-        Judged::Silent(Silent::Short) => write_outcome(&Outcome::Unsent(SHORT), out),
-        Judged::Silent(Silent::BadHmac) => write_outcome(&Outcome::Unsent(BAD_HMAC), out),
+        Judged::Silent(Silent::Short) => write_unsent(SHORT, out),
+        Judged::Silent(Silent::BadHmac) => write_unsent(BAD_HMAC, out),
         Judged::Reflect => {
             let len = write_reflection(session, meta, t3, octets, out);
             let session = &mut list[place];
@@ -191,6 +205,19 @@ impl Sessions {
         }
     }
 
+    /// Writes the answer to a datagram at the front, as `answer` does to its record. Its reply leaves at `t3`, in
+    /// nanoseconds since the start of 1970.
+    #[inline(always)]
+    pub fn arrive(&mut self, meta: &Meta, t3: u64, octets: &[u8], out: &mut [u8]) -> usize
+        requires room { 65567 ≤ length out.old }
+        requires measured { meta.now.len ≡ length octets.now }
+        requires limit { length octets.now ≤ 65507 }
+        ensures answered { (t : Table) → Stands self.old t → IsAnswered t self.new (Arrives (datagram_of meta.now t3 octets.now)) out.old out.new result }
+        ensures fits { result ≤ 65538 }
+    {
+        arrive(&mut self.list, meta, t3, octets, out)
+    }
+
     /// Writes the answer to a record at the front, says how many octets it has, and keeps the table that the record
     /// leaves. Later octets stay.
     pub fn answer(&mut self, item: &Record, out: &mut [u8]) -> usize
@@ -203,7 +230,7 @@ impl Sessions {
         match item {
             Record::Open { key, extra, config } => open(&mut self.list, key, extra, config, out),
             Record::Datagram { meta, t3, octets } => {
-                arrive(&mut self.list, meta, *t3, octets, out)
+                self.arrive(meta, *t3, octets, out)
             }
         }
     }

@@ -1,7 +1,7 @@
 //! Which datagrams are of which session (RFC 8972, section 3).
 
 ghost use Rattle.std.specs.Prelude.{◌≡◌, ◌<◌, ◌^◌};
-ghost use Rattle.session_key.specs.Matching.{ssid_at, query_of, matches};
+ghost use Rattle.session_key.specs.Matching.{ssid_at, query_of, agrees, matches};
 
 use refl_types::{Endpoint, Key, Meta, Mode};
 
@@ -19,6 +19,7 @@ pub struct Query {
 }
 
 /// The number in the two octets from a place on, where both are there.
+#[inline]
 #[tactic(auto, unfolding(crate::specs::Matching::ssid_at))]
 fn ssid_at(at: usize, octets: &[u8]) -> Option<u16>
     requires { at < 2 ^ 32 }
@@ -33,6 +34,7 @@ fn ssid_at(at: usize, octets: &[u8]) -> Option<u16>
 
 impl Query {
     /// The query of a datagram.
+    #[inline]
     #[tactic(auto, unfolding(crate::specs::Matching::query_of))]
     pub fn of(meta: &Meta, octets: &[u8]) -> Query
         ensures { result ≡ query_of meta.now.local meta.now.peer octets.now }
@@ -45,18 +47,26 @@ impl Query {
         }
     }
 
+    /// Whether the SSID of the datagram is the key's, in the modes that have one.
+    #[inline]
+    fn agrees(&self, key: &Key) -> bool
+        ensures { result ≡ agrees key.now.mode self.now key.now.ssid }
+    {
+        match key.mode {
+            Mode::Plain => self.plain == Some(key.ssid),
+            Mode::Auth => self.auth == Some(key.ssid),
+            Mode::Twamp => true,
+        }
+    }
+
     /// Whether the datagram is one of the session with this key.
+    #[inline]
     #[tactic(auto, unfolding(crate::specs::Matching::matches))]
     pub fn matches(&self, key: &Key) -> bool
         ensures { result ≡ matches self.now key.now }
     {
-        self.local == key.local
-            && self.peer == key.peer
-            && match key.mode {
-                Mode::Plain => self.plain == Some(key.ssid),
-                Mode::Auth => self.auth == Some(key.ssid),
-                Mode::Twamp => true,
-            }
+        // Sessions of one sender differ in their SSID alone, so it is looked at first.
+        self.agrees(key) && self.local == key.local && self.peer == key.peer
     }
 }
 

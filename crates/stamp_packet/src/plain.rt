@@ -10,7 +10,7 @@ use octet_format::{field2, field4, field8, put};
 const PLAIN_LEN: usize = 44;
 
 /// Reads a request. The octets that must be zero are ignored.
-#[inline]
+#[inline(always)]
 #[tactic(auto, unfolding(crate::specs::Plain::sender_of))]
 pub fn read_plain(octets: &[u8]) -> Result<SenderBase, Short>
     ensures value { result ≡ read_of octets.now }
@@ -28,7 +28,7 @@ pub fn read_plain(octets: &[u8]) -> Result<SenderBase, Short>
 }
 
 /// Writes a reply into the first 44 octets. All other octets stay.
-#[inline]
+#[inline(always)]
 pub fn write_plain(reply: &ReplyBase, out: &mut [u8])
     requires { 44 ≤ length out.old }
     ensures { out.new ≡ plain_reply reply.now ++ drop 44 out.old }

@@ -1,7 +1,6 @@
 -- What a replay keeps from record to record, and what each of its ends says.
-use Rattle.std.proofs.Common.{◌≡◌, ℕ, ◌+◌, ◌^◌, ◌<◌, ◌≤◌, ◌⊎◌, inl, inr, List, [], ◌∷◌, ◌++◌, length, take, drop, Option, Some, None, refl, sym, ap, subst, ◌∙◌, append_assoc, arith}
+use Rattle.std.proofs.Common.{◌≡◌, ℕ, ◌+◌, ◌^◌, ◌<◌, ◌≤◌, inl, inr, List, [], ◌∷◌, ◌++◌, length, take, drop, Option, Some, None, refl, sym, ap, subst, ◌∙◌, append_assoc, arith}
 use Rattle.std.specs.Prelude.{IfSome}
-use Rattle.std.specs.List.{AllByRecursion}
 use Rattle.std.proofs.lemmas.List.{append-nil, length-append, nil_from_length}
 use Rattle.std.proofs.lemmas.List.Concat.{flat_map-cons}
 use Rattle.std.proofs.Math.Seq.{take-append-add}
@@ -17,7 +16,7 @@ use Rattle.replay_table.specs.declared.session.Session.{Session}
 use Rattle.replay_table.specs.Table.{Table}
 use Rattle.replay_table.specs.Outcomes.{answer, after, answers, answers_from, table_after}
 use Rattle.replay_table.specs.Stands.{Stands}
-use Rattle.stampd.specs.Replay.{IsStream, IsNoStream, Takes, PassesLimit, LeavesGrammar, answers_and_offset, IsDone, HasLeft, WasCutOff, IsDue, WasStopped}
+use Rattle.stampd.specs.Replay.{IsStream, IsNoStream, Takes, LeavesGrammar, answers_and_offset, IsDone, HasLeft, WasCutOff, WasStopped}
 
 -- ---- one record more
 
@@ -100,6 +99,10 @@ module _ (left0 left w0 w : Option (List ℕ)) (sessions : List Session) (pendin
     stands = h.stands;
     consumed = h.consumed;
   }
+
+  -- the same sessions, and the same that is due
+  pub going_same : (sessions' : List Session) (due' : List ℕ) → due' ≡ due → sessions' ≡ sessions → Going left0 left w0 w sessions' pending due' passed records
+  going_same sessions' due' e same = rw (e, same) h
 
   -- some of what was due was written
   pub going_written : (w' : Option (List ℕ)) (octets due' : List ℕ) → Appends w w' octets → octets ++ due' ≡ due → Going left0 left w0 w' sessions pending due' passed records

@@ -1,3 +1,4 @@
 pub mod Buffers
 pub mod Replay
 pub mod Command
+pub mod Taking

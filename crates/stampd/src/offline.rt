@@ -9,10 +9,9 @@ ghost use Rattle.port_io.specs.Outside.{Rises, AppendsFront};
 ghost use Rattle.stampd.specs.Command.{IsReplay, IsUsage};
 ghost use Rattle.stampd.specs.Replay.{IsStream, IsNoStream, IsDone, HasLeft, WasCutOff, WasStopped, IsUntouched};
 
-use crate::outbox::Outbox;
+use crate::outbox::{Outbox, Taken};
 use crate::read_ahead::ReadAhead;
 use port_io::{Sink, Source, write_all};
-use replay_format::{Parsed, read_record};
 use replay_table::Sessions;
 use std::alloc::Global;
 
@@ -73,9 +72,17 @@ pub fn replay<S: Source, K: Sink>(alloc: Global, input: &mut S, out: &mut K) -> 
     };
     let mut passed: u64 = 0;
     'records: loop {
-        match read_record(ahead.pending()) {
-            Parsed::Bad => return leave(&mut outbox, out, passed),
-            Parsed::More => {
+        let Ok(()) = outbox.make_room(out) else {
+            return ReplayEnd::Output;
+        };
+        match outbox.take(&mut sessions, ahead.pending(), STREAM_LIMIT - passed) {
+            Taken::Answered(len) => {
+                passed += len as u64;
+                ahead.advance(len);
+            }
+            Taken::TooLong => return leave(&mut outbox, out, passed),
+            Taken::Bad => return leave(&mut outbox, out, passed),
+            Taken::More => {
                 let held = ahead.pending().len();
                 if passed + held as u64 > STREAM_LIMIT {
                     return leave(&mut outbox, out, passed);
@@ -93,17 +100,6 @@ pub fn replay<S: Source, K: Sink>(alloc: Global, input: &mut S, out: &mut K) -> 
                     return leave(&mut outbox, out, passed);
                 }
             }
-            Parsed::Record(record, len) => {
-                if passed + len as u64 > STREAM_LIMIT {
-                    return leave(&mut outbox, out, passed);
-                }
-                let Ok(()) = outbox.make_room(out) else {
-                    return ReplayEnd::Output;
-                };
-                outbox.answer(&mut sessions, &record);
-                passed += len as u64;
-                ahead.advance(len);
-            }
         }
     }
 }
@@ -119,14 +115,13 @@ fn is_replay(words: &[String]) -> bool
     }
 }
 
-/// Says that the words are no command.
+/// Says that the words are no command. Where that can't be written, the status is the same.
 fn refuse<K: Sink>(out: &mut K) -> u8
     ensures status { result ≡ 2 }
     ensures usage { IsUsage (K.written out.old) (K.written out.new) (K.faults out.old) (K.faults out.new) }
 {
     match write_all(out, USAGE) {
-        Ok(()) => 2,
-        Err(_) => 2,
+        Ok(()) | Err(_) => 2,
     }
 }
 

@@ -4,20 +4,33 @@ ghost use Rattle.std.specs.Prelude.{ℕ, ◌≡◌, ◌+◌, ◌≤◌, ◌↔�
 ghost use Rattle.std.specs.Io.KnownBytes.{Appends};
 ghost use Rattle.port_io.specs.Outside.{Rises, AppendsFront};
 ghost use Rattle.replay_format.specs.View.{item_of, IsMeasured};
-ghost use Rattle.replay_format.specs.Records.{Fits};
+ghost use Rattle.replay_format.specs.Records.{Arrives, Fits, datagram_of};
 ghost use Rattle.replay_format.specs.Answers.{Left, answer_octets};
 ghost use Rattle.replay_table.specs.Table.{Table};
 ghost use Rattle.replay_table.specs.Outcomes.{answer, after};
 ghost use Rattle.replay_table.specs.Stands.{Stands};
 
 use port_io::{Failed, Sink, write_all};
-use refl_types::Memory;
-use replay_format::{Outcome, Record, write_outcome};
+use refl_types::{Memory, Meta};
+use replay_format::{Outcome, Parsed, Record, read_datagram, read_record, write_outcome};
 use replay_table::{ANSWER_ROOM, Sessions};
 use std::alloc::Global;
 
 /// Octets of the buffer.
 pub const ROOM: usize = 524_288;
+
+/// What was done with the octets at the front of a stream.
+#[derive(Clone, Copy, Debug, PartialEq, Eq)]
+pub enum Taken {
+    /// A record was answered, which has as many octets.
+    Answered(usize),
+    /// A record stands there that has too many octets.
+    TooLong,
+    /// They are the front of a record, and lack its end.
+    More,
+    /// No record begins with them, whatever follows.
+    Bad,
+}
 
 /// Answers that are not written yet.
 #[derive(Drop)]
@@ -30,6 +43,7 @@ pub struct Outbox {
 
 impl Outbox {
     ghost use Rattle.stampd.specs.Buffers.{due};
+    ghost use Rattle.stampd.specs.Taking.{AnswersItem, IsTaken};
 
     /// An empty buffer. All its memory is taken here.
     pub fn make(alloc: Global) -> Result<Outbox, Memory>
@@ -76,13 +90,49 @@ impl Outbox {
     }
 
     /// Adds the answer to a record.
-    pub fn answer(&mut self, sessions: &mut Sessions, item: &Record)
+    fn answer(&mut self, sessions: &mut Sessions, item: &Record)
         requires room { self.old.used + 65567 ≤ 524288 }
         requires measured { IsMeasured item.now }
         requires fits { Fits (item_of item.now) }
-        ensures { (t : Table) → Stands sessions.old t → (due self.new ≡ due self.old ++ answer_octets (answer t (item_of item.now))) × Stands sessions.new (after t (item_of item.now)) }
+        ensures { AnswersItem (item_of item.now) self.old self.new sessions.old sessions.new }
     {
         self.used += answer_behind(sessions, item, &mut self.octets, self.used);
+    }
+
+    /// Answers the record at the front of octets, unless it has more than `limit` of them.
+    #[inline]
+    pub fn take(&mut self, sessions: &mut Sessions, octets: &[u8], limit: u64) -> Taken
+        requires { self.old.used + 65567 ≤ 524288 }
+        ensures { IsTaken result octets.now limit self.old self.new sessions.old sessions.new }
+    {
+        // Nearly all records are whole datagrams.
+        let Some((meta, t3, text, len)) = read_datagram(octets) else {
+            return self.take_any(sessions, octets, limit);
+        };
+        if len as u64 > limit {
+            return Taken::TooLong;
+        }
+        self.used += reply_behind(sessions, &meta, t3, text, &mut self.octets, self.used);
+        Taken::Answered(len)
+    }
+
+    /// Answers any record at the front of octets.
+    #[inline(never)]
+    fn take_any(&mut self, sessions: &mut Sessions, octets: &[u8], limit: u64) -> Taken
+        requires { self.old.used + 65567 ≤ 524288 }
+        ensures { IsTaken result octets.now limit self.old self.new sessions.old sessions.new }
+    {
+        match read_record(octets) {
+            Parsed::Bad => Taken::Bad,
+            Parsed::More => Taken::More,
+            Parsed::Record(record, len) => {
+                if len as u64 > limit {
+                    return Taken::TooLong;
+                }
+                self.answer(sessions, &record);
+                Taken::Answered(len)
+            }
+        }
     }
 
     /// Adds where the stream left its grammar.
@@ -103,6 +153,25 @@ fn answer_behind(sessions: &mut Sessions, item: &Record, octets: &mut [u8], at: 
     ensures answer { (t : Table) → Stands sessions.old t → (take (at + result) octets.new ≡ take at octets.old ++ answer_octets (answer t (item_of item.now))) × Stands sessions.new (after t (item_of item.now)) }
 {
     sessions.answer(item, &mut octets[at..])
+}
+
+/// Writes the answer to a datagram from a place on.
+#[inline]
+fn reply_behind(
+    sessions: &mut Sessions,
+    meta: &Meta,
+    t3: u64,
+    text: &[u8],
+    octets: &mut [u8],
+    at: usize,
+) -> usize
+    requires room { at + 65567 ≤ length octets.old }
+    requires measured { meta.now.len ≡ length text.now }
+    requires limit { length text.now ≤ 65507 }
+    ensures fits { result ≤ 65538 }
+    ensures answer { (t : Table) → Stands sessions.old t → (take (at + result) octets.new ≡ take at octets.old ++ answer_octets (answer t (Arrives (datagram_of meta.now t3 text.now)))) × Stands sessions.new (after t (Arrives (datagram_of meta.now t3 text.now))) }
+{
+    sessions.arrive(meta, t3, text, &mut octets[at..])
 }
 
 /// Writes an offset from a place on.

@@ -1,7 +1,8 @@
 //! The integrity of a tail. The rule is this project's own, after RFC 8972, section 4.8.
 
-ghost use Rattle.std.specs.Prelude.{◌≡◌, true, ◌+◌, ◌≤◌, length, drop};
-ghost use Rattle.tlv_integrity.specs.Integrity.{integrity, fits, without, IsPlaced};
+ghost use Rattle.std.specs.Prelude.{ℕ, ◌≡◌, true, ◌+◌, ◌≤◌, length, drop};
+ghost use Rattle.tlv_integrity.specs.Integrity.{integrity, integrity_of, fits, without, IsPlaced};
+ghost use Rattle.tlv_integrity.specs.declared.integrity.Integrity.TheVariants.{Passed};
 ghost use Rattle.tlv_integrity.specs.Heads.{heads, placed_at, rest_head};
 ghost use Rattle.tlv_chain.specs.Split.{split};
 
@@ -63,14 +64,12 @@ fn without(mode: Mode, tail: &[u8], at: usize) -> Integrity
     }
 }
 
-/// The integrity of a tail, under the configuration's key and the request's Sequence Number.
-pub fn check(mode: Mode, config: &Config, sequence: &[u8; 4], tail: &[u8]) -> Integrity
-    ensures value { result ≡ integrity mode config.now sequence.now tail.now }
-    ensures place { IsPlaced result config.now (length tail.now) }
+/// The integrity of a tail under a key in its block form.
+#[inline(never)]
+fn check_under(mode: Mode, block: &[u8; 64], sequence: &[u8; 4], tail: &[u8]) -> Integrity
+    ensures value { result ≡ integrity_of mode block.now sequence.now tail.now (split tail.now) }
+    ensures place { (at : ℕ) → result ≡ Passed at → at + 20 ≤ length tail.now }
 {
-    let Some(block) = &config.as_parts().key else {
-        return Integrity::Absent;
-    };
     match first_hmac(tail) {
         First::Hmac(span) => {
             if fits(block, sequence, tail, &span) {
@@ -80,5 +79,17 @@ pub fn check(mode: Mode, config: &Config, sequence: &[u8; 4], tail: &[u8]) -> In
             }
         }
         First::Rest(at) => without(mode, tail, at),
+    }
+}
+
+/// The integrity of a tail, under the configuration's key and the request's Sequence Number.
+#[inline(always)]
+pub fn check(mode: Mode, config: &Config, sequence: &[u8; 4], tail: &[u8]) -> Integrity
+    ensures value { result ≡ integrity mode config.now sequence.now tail.now }
+    ensures place { IsPlaced result config.now (length tail.now) }
+{
+    match &config.as_parts().key {
+        None => Integrity::Absent,
+        Some(block) => check_under(mode, block, sequence, tail),
     }
 }

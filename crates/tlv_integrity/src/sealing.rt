@@ -23,6 +23,7 @@ fn seal_with(block: &[u8; 64], sequence: &[u8; 4], out: &mut [u8], at: usize)
 
 /// Writes the flags and the value of the HMAC TLV at a place of a reply's tail, which cover the reply's Sequence Number
 /// and what stands before it. All other octets stay.
+#[inline(never)]
 pub fn seal(config: &Config, sequence: &[u8; 4], out: &mut [u8], at: usize)
     requires key { IsSome config.now.key }
     requires room { at + 20 ≤ length out.old }

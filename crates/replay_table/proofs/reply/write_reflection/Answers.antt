@@ -1,17 +1,11 @@
-use Rattle.std.proofs.Common.{◌≡◌, ℕ, List, ◌+◌, ◌-◌, ◌++◌, length, take, drop, sym, ap, ◌∙◌, arith}
+use Rattle.std.proofs.Common.{ℕ, ◌+◌, ◌-◌, ◌++◌, length, take, drop, sym, ap, ◌∙◌, arith}
 use borrow.Rule.Slice.PartMut.{put_mid}
 use Rattle.refl_types.specs.declared.types.Endpoint.{Endpoint}
-use Rattle.refl_types.specs.declared.types.Meta.{Meta}
-use Rattle.refl_types.specs.declared.config.ConfigParts.{ConfigParts}
-use Rattle.refl_types.specs.declared.types.Key.{Key}
-use Rattle.refl_types.specs.declared.types.Extra.{Extra}
 use Rattle.reflect_core.specs.Reflection.{Reflected, reflection}
 use Rattle.replay_format.specs.Records.{Datagram, datagram_of}
 use Rattle.replay_format.specs.Answers.{Sending, answer_octets, sent_octets}
 use Rattle.replay_format.proofs.AnswerFacts.{framed_behind}
-use Rattle.replay_table.specs.Table.{Entry}
-use Rattle.replay_table.specs.Reflection.{sending, sent_under, meta_of}
-use Rattle.replay_table.specs.Stands.{StandsFor}
+use Rattle.replay_table.specs.Reflection.{sent_under}
 use Rattle.replay_table.proofs.ReplyFacts.{sending_is}
 use Rattle.replay_table.proofs.reply.write_reflection.Goals as goal
 

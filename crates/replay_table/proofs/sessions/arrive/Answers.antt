@@ -1,15 +1,14 @@
-use Rattle.std.proofs.Common.{◌≡◌, ℕ, ◌+◌, ◌%◌, ◌^◌, ◌++◌, drop, get_or, refl, sym, ap, subst, ◌∙◌, arith}
+use Rattle.std.proofs.Common.{◌≡◌, ◌+◌, ◌%◌, ◌^◌, get_or, refl, sym, ap, subst, ◌∙◌}
 use Rattle.std.proofs.lemmas.List.Quantifiers.{position-Some}
 use Rattle.refl_types.specs.declared.outcome.Silent.TheVariants.{Short, BadHmac}
 use Rattle.session_key.specs.declared.matching.Query.{Query}
 use Rattle.session_key.specs.Matching.{query_of, matches}
-use Rattle.reflect_core.specs.declared.judging.Judged.{Judged}
 use Rattle.reflect_core.specs.declared.judging.Judged.TheVariants.{Reflect, Silent}
 use Rattle.reflect_core.specs.Judgement.{judgement}
 use Rattle.replay_format.specs.Records.{Datagram, Arrives, datagram_of}
-use Rattle.replay_format.specs.Answers.{Unsent, Sent, answer_octets}
+use Rattle.replay_format.specs.Answers.{Unsent, Sent}
 use Rattle.replay_table.specs.declared.session.Session.{Session}
-use Rattle.replay_table.specs.Table.{Entry, update, raised}
+use Rattle.replay_table.specs.Table.{update, raised}
 use Rattle.replay_table.specs.Reflection.{sending}
 use Rattle.replay_table.specs.Stands.{StandsFor}
 use Rattle.replay_table.proofs.TableFacts.{some_session, no_place, stands-none, stands-at, raised-count, keyed-at, keyed-set, judged-same, same-at}
@@ -23,7 +22,7 @@ returns-in_default-clause-answered c = λ t st.
     let d : Datagram = datagram_of m c.args.t3 c.args.octets.now in
     let none = stands-none q c.args.list.now t some_session st (no_place q c.args.list.now some_session (sym c.in_default.ensures)) in
     let l = no_session t d none in
-    answered t t c.args.list.now (Arrives d) (Unsent 1) c.args.out.now c.write_outcome.new.out c.write_outcome.result l.0 l.1 st c.write_outcome.ensures.octets c.write_outcome.ensures.len
+    answered t t c.args.list.now (Arrives d) (Unsent 1) c.args.out.now c.write_unsent.new.out c.write_unsent.result l.0 l.1 st c.write_unsent.ensures.octets c.write_unsent.ensures.len
 
 pub judge-requires : goal.judge-requires
 judge-requires c =
@@ -47,7 +46,7 @@ returns-in-Silent-Short-clause-answered c = λ t st.
     let at = stands-at q c.args.list.now t c.in-Some.place s st p.0 p.1 p.2 in
     let was : judgement at.0.key.mode at.0.config d.octets ≡ Silent Short = judged-same _ at.0 d.octets at.1.stands ∙ sym c.judge.ensures ∙ c.in-Silent-Short.is ∙ ap (λ x. Silent x) c.in-Silent-Short.field-0-is in
     let l = silent t d at.0 Short at.1.found was in
-    let w = c.write_outcome-in-Silent-Short in
+    let w = c.write_unsent-in-Silent-Short in
     answered t t c.args.list.now (Arrives d) (Unsent 2) c.args.out.now w.new.out w.result l.0 l.1 st w.ensures.octets w.ensures.len
 
 pub returns-in-Silent-BadHmac-clause-answered : goal.returns-in-Silent-BadHmac-clause-answered
@@ -60,7 +59,7 @@ returns-in-Silent-BadHmac-clause-answered c = λ t st.
     let at = stands-at q c.args.list.now t c.in-Some.place s st p.0 p.1 p.2 in
     let was : judgement at.0.key.mode at.0.config d.octets ≡ Silent BadHmac = judged-same _ at.0 d.octets at.1.stands ∙ sym c.judge.ensures ∙ c.in-Silent-BadHmac.is ∙ ap (λ x. Silent x) c.in-Silent-BadHmac.field-0-is in
     let l = silent t d at.0 BadHmac at.1.found was in
-    let w = c.write_outcome-in-Silent-BadHmac in
+    let w = c.write_unsent-in-Silent-BadHmac in
     answered t t c.args.list.now (Arrives d) (Unsent 3) c.args.out.now w.new.out w.result l.0 l.1 st w.ensures.octets w.ensures.len
 
 pub returns-in-Reflect-clause-keyed : goal.returns-in-Reflect-clause-keyed

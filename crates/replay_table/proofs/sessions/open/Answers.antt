@@ -2,7 +2,7 @@ use Rattle.std.proofs.Common.{◌≡◌, ℕ, List, ◌++◌, drop, length, refl
 use Rattle.replay_format.specs.Records.{Opening, Opens}
 use Rattle.replay_format.specs.Answers.{Opened, answer_octets}
 use Rattle.replay_table.specs.declared.session.Session.{Session}
-use Rattle.replay_table.specs.Table.{Table, with_entry}
+use Rattle.replay_table.specs.Table.{with_entry}
 use Rattle.replay_table.specs.Outcomes.{opened_entry, opening_code}
 use Rattle.replay_table.specs.Stands.{Stands, StandsFor, AreKeyed}
 use Rattle.replay_table.proofs.TableFacts.{stands-push, keyed-push}

@@ -1,4 +1,4 @@
-use Rattle.std.proofs.Common.{◌≡◌, ℕ, Bool, length, sym, ap, ◌∙◌}
+use Rattle.std.proofs.Common.{◌≡◌, ℕ, Bool, length, ap, ◌∙◌}
 use Rattle.replay_format.specs.Records.{Opening}
 use Rattle.replay_table.specs.Table.{is_bound, has_clash}
 use Rattle.replay_table.specs.Outcomes.{code_of}

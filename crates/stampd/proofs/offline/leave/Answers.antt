@@ -1,4 +1,4 @@
-use Rattle.std.proofs.Common.{◌≡◌, ◌++◌, ◌∙◌, sym, ap, append_assoc}
+use Rattle.std.proofs.Common.{◌++◌, ◌∙◌, sym, ap, append_assoc}
 use Rattle.std.specs.Prelude.{List, ℕ}
 use Rattle.replay_format.specs.Answers.{Left, answer_octets}
 use Rattle.stampd.specs.Buffers.{due}

@@ -1,4 +1,4 @@
-use Rattle.std.proofs.Common.{ℕ, ◌≤◌, List, length, ◌+◌, ◌-◌, ◌*◌, ◌^◌}
+use Rattle.std.proofs.Common.{◌≤◌, List, length, ◌+◌, ◌-◌, ◌*◌, ◌^◌}
 use Rattle.replay_format.specs.Records.{Item}
 use Rattle.stampd.specs.Buffers.{pending, due}
 use Rattle.stampd.proofs.Going.{Going}

@@ -1,5 +1,5 @@
-use Rattle.std.proofs.Common.{arith, ap, take, drop, length, ◌-◌, ◌+◌, ◌≡◌, ◌++◌, ◌∙◌, List, ℕ, subst, sym}
-use Rattle.std.proofs.lemmas.List.{length-take, length-take-le}
+use Rattle.std.proofs.Common.{arith, take, length, ◌≡◌}
+use Rattle.std.proofs.lemmas.List.{length-take-le}
 use Rattle.stampd.proofs.Places.{take_front}
 use Rattle.stampd.proofs.read_ahead.read_behind.Goals as goal
 

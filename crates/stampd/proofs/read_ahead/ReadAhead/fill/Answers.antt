@@ -1,4 +1,4 @@
-use Rattle.std.proofs.Common.{ap, take, length, ◌≡◌, ◌+◌, ◌∙◌, ◌++◌, List, ℕ, sym, arith}
+use Rattle.std.proofs.Common.{ap, take, length, ◌≡◌, ◌+◌, ◌∙◌, ◌++◌, List, ℕ, arith}
 use Rattle.std.proofs.lemmas.Result.{err_from_is_err_and}
 use Rattle.std.proofs.lemmas.List.{with_items_is}
 use Rattle.stampd.specs.Buffers.{between}

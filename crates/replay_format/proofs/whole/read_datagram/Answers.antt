@@ -3,7 +3,7 @@ use Rattle.std.specs.Int.{w32, w64, from_be_bytes}
 use Rattle.replay_format.specs.Records.{Arrives, datagram_of}
 use Rattle.replay_format.specs.View.{IsFront}
 use Rattle.replay_format.proofs.WholeFacts.{whole_front}
-use Rattle.replay_format.proofs.whole.whole_datagram.Goals as goal
+use Rattle.replay_format.proofs.whole.read_datagram.Goals as goal
 
 pub returns-clause-front : goal.returns-clause-front
 returns-clause-front c =
