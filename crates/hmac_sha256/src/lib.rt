@@ -6,6 +6,8 @@ ghost use Rattle.hmac_sha256.specs.Hmac.{block_of, filled, pad, mac128_of};
 
 use octet_format::put;
 use sha2::{Digest, Sha256};
+use std::alloc::AllocError;
+use std::marker::Model;
 
 /// Octets of a block of SHA-256, and so of a key's block form.
 const BLOCK_LEN: usize = 64;
@@ -54,17 +56,72 @@ fn first_half(digest: &[u8; 32]) -> [u8; 16]
     half
 }
 
+/// A key whose two padded blocks are hashed already, so that each HMAC under it begins behind them (RFC 2104,
+/// section 4). Contracts see it as the key's block form.
+#[derive(Drop)]
+pub struct KeyedHash {
+    block: [u8; 64],
+    inner: Sha256,
+    outer: Sha256,
+}
+
+impl Model for KeyedHash {
+    ghost use Rattle.std.specs.Prelude.{ℕ, List};
+    ghost use Rattle.sha2.specs.Hashers.{Holds256};
+    ghost use Rattle.hmac_sha256.specs.Hmac.{pad};
+
+    ghost Value = { List ℕ };
+
+    ghost view = { λ k. k.block };
+
+    ghost invariant = { λ k. Holds256 k.inner (pad 0x36 k.block) × Holds256 k.outer (pad 0x5C k.block) };
+}
+
+impl KeyedHash {
+    ghost use Rattle.std.specs.Prelude.{◌≡◌, ◌++◌};
+    ghost use Rattle.hmac_sha256.specs.Hmac.{mac128_of};
+
+    /// Hashes the padded blocks of a key in its block form.
+    pub fn of(block: &[u8; 64]) -> KeyedHash
+        ensures { result ≡ block.now }
+    {
+        KeyedHash {
+            block: *block,
+            inner: Sha256::new_with_prefix(padded(block, INNER_PAD)),
+            outer: Sha256::new_with_prefix(padded(block, OUTER_PAD)),
+        }
+    }
+
+    /// The first 16 octets of the HMAC under this key of `first` followed by `second`.
+    #[tactic(auto, unfolding(crate::specs::Hmac::mac128_of, crate::specs::Hmac::hmac))]
+    pub fn mac128(&self, first: &[u8], second: &[u8]) -> [u8; 16]
+        ensures { result ≡ mac128_of self.now (first.now ++ second.now) }
+    {
+        let mut inner = copied(&self.inner);
+        inner.update(first);
+        inner.update(second);
+        let mut outer = copied(&self.outer);
+        outer.update(inner.finalize());
+        first_half(&outer.finalize())
+    }
+}
+
+/// Copying a hasher takes no memory, so it can't fail.
+fn copied(hasher: &Sha256) -> Sha256
+    ensures { result ≡ hasher.now }
+{
+    let copy: Result<Sha256, AllocError> = hasher.clone();
+    match copy {
+        Ok(copy) => copy,
+        Err(_) => unreachable!(),
+    }
+}
+
 /// The first 16 octets of the HMAC, under a key in its block form, of `first` followed by `second`.
-#[tactic(auto, unfolding(crate::specs::Hmac::mac128_of, crate::specs::Hmac::hmac))]
 pub fn mac128(block: &[u8; 64], first: &[u8], second: &[u8]) -> [u8; 16]
     ensures { result ≡ mac128_of block.now (first.now ++ second.now) }
 {
-    let mut inner = Sha256::new_with_prefix(padded(block, INNER_PAD));
-    inner.update(first);
-    inner.update(second);
-    let mut outer = Sha256::new_with_prefix(padded(block, OUTER_PAD));
-    outer.update(inner.finalize());
-    first_half(&outer.finalize())
+    KeyedHash::of(block).mac128(first, second)
 }
 
 #[cfg(test)]

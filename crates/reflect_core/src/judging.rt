@@ -1,10 +1,12 @@
 //! Whether a datagram of a session is reflected (RFC 8762, section 4.3).
 
-ghost use Rattle.std.specs.Prelude.{◌≡◌};
+ghost use Rattle.std.specs.Prelude.{◌≡◌, Some};
+ghost use Rattle.refl_types.specs.declared.config.ConfigParts.{ConfigParts};
 ghost use Rattle.reflect_core.specs.Judgement.{HasKey, judgement, judged_length};
 
 use refl_types::{Config, Key, Mode, Silent};
-use stamp_auth::{AuthFault, read_auth};
+use hmac_sha256::KeyedHash;
+use stamp_auth::{AuthFault, read_auth_under};
 
 /// Octets of an unauthenticated base packet.
 const PLAIN_LEN: usize = 44;
@@ -32,18 +34,27 @@ fn judge_length(octets: &[u8], least: usize) -> Judged
     }
 }
 
+/// Whether a datagram of a session of mode Auth is reflected, as `judge` says it, under the session's key, whose blocks
+/// are hashed already.
+#[inline(never)]
+pub fn judge_under(key: &KeyedHash, octets: &[u8]) -> Judged
+    ensures { (config : ConfigParts) → config.key ≡ Some key.now → result ≡ judgement Mode.Auth config octets.now }
+{
+    match read_auth_under(key, octets) {
+        Ok(_) => Judged::Reflect,
+        Err(AuthFault::Short) => Judged::Silent(Silent::Short),
+        Err(AuthFault::BadHmac) => Judged::Silent(Silent::BadHmac),
+    }
+}
+
 #[inline(never)]
 fn judge_auth(config: &Config, octets: &[u8]) -> Judged
     requires { HasKey Mode.Auth config.now }
     ensures { result ≡ judgement Mode.Auth config.now octets.now }
 {
-    let Some(block) = &config.as_parts().key else {
-        return Judged::Silent(Silent::BadHmac);
-    };
-    match read_auth(block, octets) {
-        Ok(_) => Judged::Reflect,
-        Err(AuthFault::Short) => Judged::Silent(Silent::Short),
-        Err(AuthFault::BadHmac) => Judged::Silent(Silent::BadHmac),
+    match &config.as_parts().key {
+        Some(block) => judge_under(&KeyedHash::of(block), octets),
+        None => Judged::Silent(Silent::BadHmac),
     }
 }
 

@@ -1,15 +1,18 @@
 //! The reflection of a datagram (RFC 8762, section 4.3; RFC 5357, section 4.2).
 
 ghost use Rattle.std.specs.Prelude.{◌≡◌, Some, ◌≤◌, IsSome, length};
-ghost use Rattle.refl_types.specs.declared.types.Mode.TheVariants.{Twamp};
+ghost use Rattle.refl_types.specs.declared.types.Mode.TheVariants.{Auth, Twamp};
+ghost use Rattle.refl_types.specs.declared.types.Key as keys;
+ghost use Rattle.refl_types.specs.declared.types.Extra as extras;
 ghost use Rattle.reflect_core.specs.declared.judging.Judged.TheVariants.{Reflect};
 ghost use Rattle.reflect_core.specs.Judgement.{HasKey, judgement};
 ghost use Rattle.reflect_core.specs.Reflection.{WritesPlain, WritesAuth, WritesTest, reflection, IsReply};
 
 use crate::base::reply_base;
 use crate::tails::write_tail_after;
+use hmac_sha256::KeyedHash;
 use refl_types::{Config, Endpoint, Extra, Key, Meta, Mode};
-use stamp_auth::{auth_sender, write_auth};
+use stamp_auth::{auth_sender, write_auth_under};
 use stamp_packet::{read_plain, write_plain};
 use twamp_test::{read_test, write_test};
 
@@ -28,6 +31,20 @@ pub struct Reply {
     pub to: Endpoint,
     /// Its length.
     pub len: usize,
+}
+
+/// A reply goes to its request's sender, from where that arrived.
+#[inline(always)]
+fn reply_of(meta: &Meta, len: usize) -> Reply
+    ensures from { result.from ≡ meta.now.local }
+    ensures to { result.to ≡ meta.now.peer }
+    ensures len { result.len ≡ len }
+{
+    Reply {
+        from: meta.local,
+        to: meta.peer,
+        len,
+    }
 }
 
 /// Writes the reply of an unauthenticated STAMP session.
@@ -52,9 +69,9 @@ fn reflect_plain(
     input.len()
 }
 
-/// Writes the reply of an authenticated STAMP session, under its key in block form.
+/// Writes the reply of an authenticated STAMP session, under its key.
 fn reflect_auth(
-    block: &[u8; 64],
+    key: &KeyedHash,
     config: &Config,
     n: u32,
     meta: &Meta,
@@ -62,14 +79,14 @@ fn reflect_auth(
     input: &[u8],
     out: &mut [u8],
 )
-    requires key { config.now.key ≡ Some block.now }
+    requires key { config.now.key ≡ Some key.now }
     requires judged { 112 ≤ length input.now }
     requires room { length input.now ≤ length out.old }
     ensures { WritesAuth config.now n meta.now t3 input.now out.old out.new }
 {
     let sender = auth_sender(input);
     let base = reply_base(config.as_parts(), n, meta, t3, &sender);
-    write_auth(block, &base, out);
+    write_auth_under(key, &base, out);
     write_tail_after(Mode::Auth, config, n, base.sequence, AUTH_LEN, input, out);
 }
 
@@ -90,7 +107,7 @@ fn reflect_auth_session(
     ensures octets { WritesAuth config.now n meta t3 input.now out.old out.new }
 {
     if let Some(block) = &config.as_parts().key {
-        reflect_auth(block, config, n, &meta, t3, input, out);
+        reflect_auth(&KeyedHash::of(block), config, n, &meta, t3, input, out);
     }
     input.len()
 }
@@ -143,9 +160,27 @@ pub fn reflect(
         Mode::Twamp => reflect_test(extra, config, n, *meta, t3, input, out),
         Mode::Auth => reflect_auth_session(config, n, *meta, t3, input, out),
     };
-    Reply {
-        from: meta.local,
-        to: meta.peer,
-        len,
-    }
+    reply_of(meta, len)
+}
+
+/// Writes the reply to a datagram of a session of mode Auth, as `reflect` does, under the session's key, whose blocks are
+/// hashed already.
+pub fn reflect_under(
+    key: &KeyedHash,
+    config: &Config,
+    n: u32,
+    meta: &Meta,
+    t3: u64,
+    input: &[u8],
+    out: &mut [u8],
+) -> Reply
+    requires key { config.now.key ≡ Some key.now }
+    requires judged { judgement Auth config.now input.now ≡ Reflect }
+    requires limit { length input.now ≤ 65507 }
+    requires room { 65536 ≤ length out.old }
+    ensures reply { (k : keys.Key) (x : extras.Extra) → k.mode ≡ Auth → IsReply (reflection k x config.now n meta.now t3 input.now) result out.old out.new }
+    ensures size { result.len ≡ length input.now }
+{
+    reflect_auth(key, config, n, meta, t3, input, out);
+    reply_of(meta, input.len())
 }

@@ -13,10 +13,10 @@ use Rattle.refl_types.specs.Same.{same_endpoint, same_mode, same_key}
 use Rattle.refl_types.proofs.SameFacts.{key_same, same_key-refl}
 use Rattle.session_key.specs.declared.matching.Query.{Query}
 use Rattle.session_key.specs.Matching.{matches}
-use Rattle.reflect_core.specs.Judgement.{HasKey, judgement}
+use Rattle.reflect_core.specs.Judgement.{judgement}
 use Rattle.replay_table.specs.declared.session.Session.{Session}
 use Rattle.replay_table.specs.Table.{Entry, Table, is_bound, has_clash, session_for, with_entry, update, raised}
-use Rattle.replay_table.specs.Stands.{StandsFor, Stands, AreKeyed}
+use Rattle.replay_table.specs.Stands.{StandsFor, Stands, IsKeyed, AreKeyed}
 
 -- a test of the key alone
 same_any : (p : Key → Bool) (ss : List Session) (t : Table) → Stands ss t → list_any (λ s. p s.key) ss ≡ list_any (λ e. p e.key) t
@@ -55,6 +55,7 @@ some_session = record {
   key = record { local = 0; peer = record { address = V4 []; port = 0 }; mode = Plain; ssid = 0 };
   extra = record { symmetrical = false; reflect = 0 };
   config = record { stateful = false; clock = Ntp; offset = 0; synced = false; scale = 0; multiplier = 0; info = []; tlvs = 0; key = None };
+  hash = None;
   count = 0;
 }
 
@@ -110,17 +111,17 @@ raised-count s e n st is = record { key = st.key; extra = st.extra; config = st.
 
 -- ---- sessions of mode Auth have a key
 
-pub keyed-at : (ss : List Session) (i : ℕ) (d : Session) → AreKeyed ss → i < length ss → HasKey (get_or ss i d).key.mode (get_or ss i d).config
+pub keyed-at : (ss : List Session) (i : ℕ) (d : Session) → AreKeyed ss → i < length ss → IsKeyed (get_or ss i d)
 keyed-at [] i d all below = absurd (omega arith)
 keyed-at (s ∷ ss) zero d all below = all.0
 keyed-at (s ∷ ss) (suc i) d all below = keyed-at ss i d all.1 (omega arith)
 
-pub keyed-set : (ss : List Session) (i : ℕ) (r : Session) → AreKeyed ss → HasKey r.key.mode r.config → AreKeyed (set ss i r)
+pub keyed-set : (ss : List Session) (i : ℕ) (r : Session) → AreKeyed ss → IsKeyed r → AreKeyed (set ss i r)
 keyed-set [] i r all one = tt
 keyed-set (s ∷ ss) zero r all one = (one, all.1)
 keyed-set (s ∷ ss) (suc i) r all one = (all.0, keyed-set ss i r all.1 one)
 
-pub keyed-push : (ss : List Session) (r : Session) → AreKeyed ss → HasKey r.key.mode r.config → AreKeyed (ss ++ r ∷ [])
+pub keyed-push : (ss : List Session) (r : Session) → AreKeyed ss → IsKeyed r → AreKeyed (ss ++ r ∷ [])
 keyed-push [] r all one = (one, tt)
 keyed-push (s ∷ ss) r all one = (all.0, keyed-push ss r all.1 one)
 

@@ -1,4 +1,5 @@
 pub mod Table
 pub mod Reflection
 pub mod Outcomes
+pub mod Hashes
 pub mod Stands

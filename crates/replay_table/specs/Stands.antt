@@ -4,6 +4,7 @@ use Rattle.reflect_core.specs.Judgement.{HasKey}
 use Rattle.replay_format.specs.Records.{Item}
 use Rattle.replay_format.specs.Answers.{answer_octets}
 use Rattle.replay_table.specs.declared.session.Session.{Session}
+use Rattle.replay_table.specs.Hashes.{IsHashOf}
 use Rattle.replay_table.specs.Table.{Entry, Table}
 use Rattle.replay_table.specs.Outcomes.{answer, after}
 
@@ -19,10 +20,14 @@ Stands [] (e ∷ t) = ⊥
 Stands (s ∷ ss) [] = ⊥
 Stands (s ∷ ss) (e ∷ t) = StandsFor s e × Stands ss t
 
--- each session of mode Auth has an HMAC key
+-- a session of mode Auth has an HMAC key, and hashed blocks are those of its key
+pub record IsKeyed (s : Session) : Type 0 where
+  pub key : HasKey s.key.mode s.config
+  pub hash : IsHashOf s.hash s.key.mode s.config
+
 abbrev pub AreKeyed : List Session → Type 0
 AreKeyed [] = Unit {0}
-AreKeyed (s ∷ ss) = HasKey s.key.mode s.config × AreKeyed ss
+AreKeyed (s ∷ ss) = IsKeyed s × AreKeyed ss
 
 -- the answer to a record was written at the front, n octets, and the table after it is kept
 pub record IsAnswered (t : Table) (new : List Session) (item : Item) (before written : List ℕ) (n : ℕ) : Type 0 where

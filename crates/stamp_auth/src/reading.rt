@@ -3,7 +3,7 @@
 ghost use Rattle.std.specs.Prelude.{◌≡◌, ◌≤◌, IfOk, length};
 ghost use Rattle.stamp_auth.specs.Request.{IsAuthRequest, auth_sender_of, has_base_hmac, read_of};
 
-use hmac_sha256::mac128;
+use hmac_sha256::KeyedHash;
 use octet_format::{field2, field4, field8, field16};
 use stamp_packet::SenderBase;
 
@@ -23,12 +23,12 @@ pub enum AuthFault {
 }
 
 /// Whether the HMAC of a base packet is that of its first 96 octets.
-fn has_base_hmac(block: &[u8; 64], octets: &[u8]) -> bool
+fn has_base_hmac(key: &KeyedHash, octets: &[u8]) -> bool
     requires { 112 ≤ length octets.now }
-    ensures { result ≡ has_base_hmac block.now octets.now }
+    ensures { result ≡ has_base_hmac key.now octets.now }
 {
     let (covered, _) = octets.split_at(COVERED);
-    field16(octets, COVERED) == mac128(block, covered, &[])
+    field16(octets, COVERED) == key.mac128(covered, &[])
 }
 
 /// The fields of a request whose HMAC was looked at before.
@@ -52,10 +52,18 @@ pub fn read_auth(block: &[u8; 64], octets: &[u8]) -> Result<SenderBase, AuthFaul
     ensures value { result ≡ read_of block.now octets.now }
     ensures table { IfOk result (IsAuthRequest octets.now) }
 {
+    read_auth_under(&KeyedHash::of(block), octets)
+}
+
+/// Reads a request as `read_auth` does, under a key whose blocks are hashed already.
+pub fn read_auth_under(key: &KeyedHash, octets: &[u8]) -> Result<SenderBase, AuthFault>
+    ensures value { result ≡ read_of key.now octets.now }
+    ensures table { IfOk result (IsAuthRequest octets.now) }
+{
     if octets.len() < AUTH_LEN {
         return Err(AuthFault::Short);
     }
-    if !has_base_hmac(block, octets) {
+    if !has_base_hmac(key, octets) {
         return Err(AuthFault::BadHmac);
     }
     Ok(auth_sender(octets))

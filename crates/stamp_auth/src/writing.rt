@@ -3,7 +3,7 @@
 ghost use Rattle.std.specs.Prelude.{◌≡◌, ◌≤◌, ◌++◌, length, take, drop};
 ghost use Rattle.stamp_auth.specs.Reply.{own_fields, copied_fields, auth_fields, auth_reply};
 
-use hmac_sha256::mac128;
+use hmac_sha256::KeyedHash;
 use octet_format::put;
 use stamp_packet::ReplyBase;
 
@@ -57,9 +57,17 @@ pub fn write_auth(block: &[u8; 64], reply: &ReplyBase, out: &mut [u8])
     requires { 112 ≤ length out.old }
     ensures { out.new ≡ auth_reply block.now reply.now ++ drop 112 out.old }
 {
+    write_auth_under(&KeyedHash::of(block), reply, out);
+}
+
+/// Writes a reply as `write_auth` does, under a key whose blocks are hashed already.
+pub fn write_auth_under(key: &KeyedHash, reply: &ReplyBase, out: &mut [u8])
+    requires { 112 ≤ length out.old }
+    ensures { out.new ≡ auth_reply key.now reply.now ++ drop 112 out.old }
+{
     write_fields(reply, out);
     let (covered, _) = out.split_at(COVERED);
-    let mac = mac128(block, covered, &[]);
+    let mac = key.mac128(covered, &[]);
     put(out, COVERED, &mac);
 }
 

@@ -19,8 +19,9 @@ returns-clause-reply c =
     let t3 = c.args.t3 in
     let input = c.args.input.now in
     let r = reflection k x config n d t3 input in
+    let to = c.reply_of.ensures in
     elim c.match-key.branch [
-      | in-Plain w ↦ replied r _ c.args.out.now c.match-key.out w.reflect_plain-len.new.out (plain_octets config n (reply_base config n d t3 (sender_of input)) input) (length input) refl refl w.out-is (w.len-is ∙ w.reflect_plain-len.ensures.len) w.reflect_plain-len.ensures.octets (plain_is k.mode x config n d t3 input w.in-Plain.is) (omega arith) (omega arith)
-      | in-Twamp w ↦ replied r _ c.args.out.now c.match-key.out w.reflect_test-len.new.out (test_reply x (reply_base config n d t3 (test_sender_of input)) input) w.reflect_test-len.result refl refl w.out-is w.len-is w.reflect_test-len.ensures.octets (test_is k.mode x config n d t3 input w.in-Twamp.is) (omega arith) (omega arith)
-      | in-Auth w ↦ replied r _ c.args.out.now c.match-key.out w.reflect_auth_session-len.new.out (auth_octets config n (reply_base config n d t3 (auth_sender_of input)) input) (length input) refl refl w.out-is (w.len-is ∙ w.reflect_auth_session-len.ensures.len) w.reflect_auth_session-len.ensures.octets (auth_is k.mode x config n d t3 input w.in-Auth.is) (omega arith) (omega arith)
+      | in-Plain w ↦ replied r _ c.args.out.now c.match-key.out w.reflect_plain-len.new.out (plain_octets config n (reply_base config n d t3 (sender_of input)) input) (length input) to.from to.to w.out-is (to.len ∙ w.len-is ∙ w.reflect_plain-len.ensures.len) w.reflect_plain-len.ensures.octets (plain_is k.mode x config n d t3 input w.in-Plain.is) (omega arith) (omega arith)
+      | in-Twamp w ↦ replied r _ c.args.out.now c.match-key.out w.reflect_test-len.new.out (test_reply x (reply_base config n d t3 (test_sender_of input)) input) w.reflect_test-len.result to.from to.to w.out-is (to.len ∙ w.len-is) w.reflect_test-len.ensures.octets (test_is k.mode x config n d t3 input w.in-Twamp.is) (omega arith) (omega arith)
+      | in-Auth w ↦ replied r _ c.args.out.now c.match-key.out w.reflect_auth_session-len.new.out (auth_octets config n (reply_base config n d t3 (auth_sender_of input)) input) (length input) to.from to.to w.out-is (to.len ∙ w.len-is ∙ w.reflect_auth_session-len.ensures.len) w.reflect_auth_session-len.ensures.octets (auth_is k.mode x config n d t3 input w.in-Auth.is) (omega arith) (omega arith)
     ]

@@ -24,14 +24,14 @@ returns-in_default-clause-answered c = λ t st.
     let l = no_session t d none in
     answered t t c.args.list.now (Arrives d) (Unsent 1) c.args.out.now c.write_unsent.new.out c.write_unsent.result l.0 l.1 st c.write_unsent.ensures.octets c.write_unsent.ensures.len
 
-pub judge-requires : goal.judge-requires
-judge-requires c =
+pub judge_session-requires : goal.judge_session-requires
+judge_session-requires c =
     let m = c.args.meta.now in
     let p = position-Some (λ (s : Session). matches (query_of m.local m.peer c.args.octets.now) s.key) c.args.list.now c.in-Some.place c.index-list-place.result (sym c.in-Some.ensures) in
     keyed-at c.args.list.now c.in-Some.place c.index-list-place.result c.requires.keyed p.0
 
-pub write_reflection-len-requires-clause-key : goal.write_reflection-len-requires-clause-key
-write_reflection-len-requires-clause-key c =
+pub write_reflection-len-requires-clause-keyed : goal.write_reflection-len-requires-clause-keyed
+write_reflection-len-requires-clause-keyed c =
     let m = c.args.meta.now in
     let p = position-Some (λ (s : Session). matches (query_of m.local m.peer c.args.octets.now) s.key) c.args.list.now c.in-Some.place c.index-list-place.result (sym c.in-Some.ensures) in
     keyed-at c.args.list.now c.in-Some.place c.index-list-place.result c.requires.keyed p.0
@@ -44,7 +44,7 @@ returns-in-Silent-Short-clause-answered c = λ t st.
     let s = c.index-list-place.result in
     let p = position-Some (λ (r : Session). matches q r.key) c.args.list.now c.in-Some.place s (sym c.in-Some.ensures) in
     let at = stands-at q c.args.list.now t c.in-Some.place s st p.0 p.1 p.2 in
-    let was : judgement at.0.key.mode at.0.config d.octets ≡ Silent Short = judged-same _ at.0 d.octets at.1.stands ∙ sym c.judge.ensures ∙ c.in-Silent-Short.is ∙ ap (λ x. Silent x) c.in-Silent-Short.field-0-is in
+    let was : judgement at.0.key.mode at.0.config d.octets ≡ Silent Short = judged-same _ at.0 d.octets at.1.stands ∙ sym c.judge_session.ensures ∙ c.in-Silent-Short.is ∙ ap (λ x. Silent x) c.in-Silent-Short.field-0-is in
     let l = silent t d at.0 Short at.1.found was in
     let w = c.write_unsent-in-Silent-Short in
     answered t t c.args.list.now (Arrives d) (Unsent 2) c.args.out.now w.new.out w.result l.0 l.1 st w.ensures.octets w.ensures.len
@@ -57,7 +57,7 @@ returns-in-Silent-BadHmac-clause-answered c = λ t st.
     let s = c.index-list-place.result in
     let p = position-Some (λ (r : Session). matches q r.key) c.args.list.now c.in-Some.place s (sym c.in-Some.ensures) in
     let at = stands-at q c.args.list.now t c.in-Some.place s st p.0 p.1 p.2 in
-    let was : judgement at.0.key.mode at.0.config d.octets ≡ Silent BadHmac = judged-same _ at.0 d.octets at.1.stands ∙ sym c.judge.ensures ∙ c.in-Silent-BadHmac.is ∙ ap (λ x. Silent x) c.in-Silent-BadHmac.field-0-is in
+    let was : judgement at.0.key.mode at.0.config d.octets ≡ Silent BadHmac = judged-same _ at.0 d.octets at.1.stands ∙ sym c.judge_session.ensures ∙ c.in-Silent-BadHmac.is ∙ ap (λ x. Silent x) c.in-Silent-BadHmac.field-0-is in
     let l = silent t d at.0 BadHmac at.1.found was in
     let w = c.write_unsent-in-Silent-BadHmac in
     answered t t c.args.list.now (Arrives d) (Unsent 3) c.args.out.now w.new.out w.result l.0 l.1 st w.ensures.octets w.ensures.len
@@ -67,7 +67,8 @@ returns-in-Reflect-clause-keyed c =
     let m = c.args.meta.now in
     let s = c.index-list-place.result in
     let p = position-Some (λ (r : Session). matches (query_of m.local m.peer c.args.octets.now) r.key) c.args.list.now c.in-Some.place s (sym c.in-Some.ensures) in
-    keyed-set c.args.list.now c.in-Some.place _ c.requires.keyed (keyed-at c.args.list.now c.in-Some.place _ c.requires.keyed p.0)
+    let one = keyed-at c.args.list.now c.in-Some.place _ c.requires.keyed p.0 in
+    keyed-set c.args.list.now c.in-Some.place _ c.requires.keyed (record { key = one.key; hash = one.hash })
 
 pub returns-in-Reflect-clause-answered : goal.returns-in-Reflect-clause-answered
 returns-in-Reflect-clause-answered c = λ t st.
@@ -77,7 +78,7 @@ returns-in-Reflect-clause-answered c = λ t st.
     let s = c.index-list-place.result in
     let p = position-Some (λ (r : Session). matches q r.key) c.args.list.now c.in-Some.place s (sym c.in-Some.ensures) in
     let at = stands-at q c.args.list.now t c.in-Some.place s st p.0 p.1 p.2 in
-    let was : judgement at.0.key.mode at.0.config d.octets ≡ Reflect = judged-same _ at.0 d.octets at.1.stands ∙ sym c.judge.ensures ∙ c.in-Reflect.is in
+    let was : judgement at.0.key.mode at.0.config d.octets ≡ Reflect = judged-same _ at.0 d.octets at.1.stands ∙ sym c.judge_session.ensures ∙ c.in-Reflect.is in
     let l = reflected t d at.0 at.1.found was in
     let other = c.index-list-place-in-Reflect.result in
     let old : Session = get_or c.args.list.now c.in-Some.place other in

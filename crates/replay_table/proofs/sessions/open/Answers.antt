@@ -24,7 +24,7 @@ returns-clause-answered c = λ t st.
     let code : opening_code t o ≡ 0 = sym (c.opening_code-code.ensures.value c.args.extra.now t seen) ∙ c.if-code-ne-OPENED.false in
     let l = opened t o code in
     let w = c.write_outcome-2 in
-    let s : Session = record { key = o.key; extra = o.extra; config = o.config; count = 0 } in
+    let s : Session = record { key = o.key; extra = o.extra; config = o.config; hash = c.hash_of.result; count = 0 } in
     let one : StandsFor s (opened_entry o) = record { key = refl; extra = refl; config = refl; count = refl } in
     let kept : Stands c.keep.new.list.items (with_entry (opened_entry o) t) = subst (λ (k : List Session). Stands k (with_entry (opened_entry o) t)) (sym c.keep.ensures.items) (stands-push c.args.list.now.items t s (opened_entry o) st one) in
     answered t (with_entry (opened_entry o) t) c.keep.new.list.items (Opens o) (Opened 0) c.args.out.now w.new.out w.result l.0 l.1 kept
@@ -32,4 +32,4 @@ returns-clause-answered c = λ t st.
     (w.ensures.len ∙ ap (λ (n : ℕ). length (answer_octets (Opened n))) c.if-code-ne-OPENED.false)
 
 pub returns-clause-keyed : goal.returns-clause-keyed
-returns-clause-keyed c = subst AreKeyed (sym c.keep.ensures.items) (keyed-push c.args.list.now.items (record { key = c.args.key.now; extra = c.args.extra.now; config = c.args.config.now; count = 0 }) c.requires.keyed (c.opening_code-code.ensures.keyed c.if-code-ne-OPENED.false))
+returns-clause-keyed c = subst AreKeyed (sym c.keep.ensures.items) (keyed-push c.args.list.now.items (record { key = c.args.key.now; extra = c.args.extra.now; config = c.args.config.now; hash = c.hash_of.result; count = 0 }) c.requires.keyed (record { key = c.opening_code-code.ensures.keyed c.if-code-ne-OPENED.false; hash = c.hash_of.ensures }))

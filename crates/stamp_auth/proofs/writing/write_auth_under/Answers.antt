@@ -3,13 +3,13 @@ use Rattle.std.proofs.lemmas.List.{append-nil, take_at}
 use Rattle.octet_format.proofs.Fields.{Has, has_more, length_written}
 use Rattle.hmac_sha256.specs.Hmac.{mac128_of}
 use Rattle.stamp_auth.specs.Reply.{auth_fields, auth_reply}
-use Rattle.stamp_auth.proofs.writing.write_auth.Goals as goal
+use Rattle.stamp_auth.proofs.writing.write_auth_under.Goals as goal
 
 pub returns : goal.returns
 returns c =
     let r = c.args.reply.now in
     let old = c.args.out.now in
-    let block = c.args.block.now in
+    let block = c.args.key.now in
     let len : length (auth_fields r) ≡ 96 = length_written (auth_fields r) old c.write_fields.new.out 96 c.write_fields.ensures (omega arith) (omega arith) in
     let mac : c.mac128-mac.result ≡ mac128_of block (auth_fields r) =
     c.mac128-mac.ensures
