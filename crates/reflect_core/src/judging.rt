@@ -4,8 +4,8 @@ ghost use Rattle.std.specs.Prelude.{◌≡◌, Some};
 ghost use Rattle.refl_types.specs.declared.config.ConfigParts.{ConfigParts};
 ghost use Rattle.reflect_core.specs.Judgement.{HasKey, judgement, judged_length};
 
-use refl_types::{Config, Key, Mode, Silent};
 use hmac_sha256::KeyedHash;
+use refl_types::{Config, Key, Mode, Silent};
 use stamp_auth::{AuthFault, read_auth_under};
 
 /// Octets of an unauthenticated base packet.

@@ -1,17 +1,26 @@
--- A datagram of an IPv4 peer at its places in a record.
-use Rattle.std.specs.Prelude.{◌≡◌, ℕ, List, [], ◌∷◌, replicate}
+-- A datagram at its places in a record.
+use Rattle.std.specs.Prelude.{◌≡◌, ℕ, Bool, true, false, List, ◌∷◌}
 use Rattle.std.specs.Int.{w16, w64, from_be_bytes}
 use Rattle.octet_format.specs.Octets.{field}
-use Rattle.refl_types.specs.declared.types.Address.TheVariants.{V4}
+use Rattle.refl_types.specs.declared.types.Address.{Address}
 use Rattle.refl_types.specs.declared.types.Meta.{Meta}
+use Rattle.refl_types.specs.Spelling.{family, address_octets, FitsAddress}
 use Rattle.replay_format.specs.Records.{ttl_octets}
+
+-- the octets 7 to 23 are an address: its family and 16 octets
+pub record HasAddress (octets : List ℕ) (a : Address) : Type 0 where
+  pub spelled : field 7 17 octets ≡ family a ∷ address_octets a
+  pub fits : FitsAddress a
+
+-- where IPv4 alone is asked for, the address is one
+abbrev pub IsAsked : Bool → Address → Type 0
+IsAsked true a = family a ≡ 4
+IsAsked false a = Unit {0}
 
 -- what is told of the datagram stands in the octets 5 to 35
 pub record HasHead (octets : List ℕ) (m : Meta) (n : ℕ) : Type 0 where
   pub local : m.local ≡ from_be_bytes w16 (field 5 2 octets)
-  pub family : field 7 1 octets ≡ 4 ∷ []
-  pub address : m.peer.address ≡ V4 (field 8 4 octets)
-  pub zeros : field 12 12 octets ≡ replicate 12 0
+  pub address : HasAddress octets m.peer.address
   pub port : m.peer.port ≡ from_be_bytes w16 (field 24 2 octets)
   pub ttl : field 26 2 octets ≡ ttl_octets m.ttl
   pub arrival : m.arrival ≡ from_be_bytes w64 (field 28 8 octets)

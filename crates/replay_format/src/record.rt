@@ -106,7 +106,7 @@ pub enum Parsed<'a> {
 pub fn read_record(octets: &[u8]) -> Parsed
     ensures { IsParsed result octets.now }
 {
-    // Nearly all records are whole datagrams of IPv4 peers.
+    // Most records are whole datagrams.
     if let Some((meta, t3, octets, len)) = read_datagram(octets) {
         return Parsed::Record(Record::Datagram { meta, t3, octets }, len);
     }

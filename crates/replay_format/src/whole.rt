@@ -1,12 +1,15 @@
-//! A datagram of an IPv4 peer that stands whole at the front is read at fixed places, without going octet by octet.
+//! A datagram that stands whole at the front is read at fixed places, without going octet by octet.
 
-ghost use Rattle.std.specs.Prelude.{◌≡◌, ◌≤◌, ◌∷◌, [], length, replicate, IsTrue, IfSome};
+ghost use Rattle.std.specs.Prelude.{ℕ, ◌≡◌, ◌≤◌, ◌↔◌, ◌∷◌, [], None, Option, length, replicate, IsTrue, IfSome};
 ghost use Rattle.octet_format.specs.Octets.{field};
-ghost use Rattle.replay_format.specs.Whole.{HasHead};
-ghost use Rattle.replay_format.specs.Records.{Arrives, datagram_of, ttl_octets};
+ghost use Rattle.refl_types.specs.declared.types.Address as addresses;
+ghost use Rattle.refl_types.specs.declared.types.Meta as metas;
+ghost use Rattle.replay_format.specs.Whole.{HasAddress, HasHead, IsAsked};
+ghost use Rattle.refl_types.specs.Spelling.{family};
+ghost use Rattle.replay_format.specs.Records.{Datagram, Arrives, datagram_of, ttl_octets};
 ghost use Rattle.replay_format.specs.View.{IsFront};
 
-use octet_format::{field2, field4, field8};
+use octet_format::{field2, field4, field8, field16};
 use refl_types::{Address, Endpoint, Meta};
 
 /// Octets of a record before the datagram's own.
@@ -14,7 +17,8 @@ const HEAD: usize = 44;
 
 /// What stands in the octets 26 and 27: whether the TTL is told, and the TTL.
 fn ttl_of(told: u8, ttl: u8) -> Option<Option<u8>>
-    ensures { IfSome result (λ t. told ∷ ttl ∷ [] ≡ ttl_octets t) }
+    ensures some { IfSome result (λ t. told ∷ ttl ∷ [] ≡ ttl_octets t) }
+    ensures none { result ≡ None → (t : Option ℕ) → told ∷ ttl ∷ [] ≡ ttl_octets t → ⊥ }
 {
     match (told, ttl) {
         (0, 0) => Some(None),
@@ -26,7 +30,7 @@ fn ttl_of(told: u8, ttl: u8) -> Option<Option<u8>>
 /// Whether the octets 12 to 23 are zeros.
 fn has_zeros(octets: &[u8]) -> bool
     requires { 44 ≤ length octets.now }
-    ensures { IsTrue result → field 12 12 octets.now ≡ replicate 12 0 }
+    ensures { IsTrue result ↔ field 12 12 octets.now ≡ replicate 12 0 }
 {
     let first = u64::from_be_bytes(field8(octets, 12));
     let last = u32::from_be_bytes(field4(octets, 20));
@@ -36,20 +40,43 @@ fn has_zeros(octets: &[u8]) -> bool
     last == 0
 }
 
-/// What is told of the datagram, where 44 octets and those that it has stand at the front.
-fn meta_of(octets: &[u8], len: usize) -> Option<Meta>
+/// The address in the octets 7 to 23, of IPv4 alone where that is asked.
+#[inline(always)]
+fn address_of(octets: &[u8], ipv4_alone: bool) -> Option<Address>
     requires { 44 ≤ length octets.now }
-    ensures { IfSome result (λ m. HasHead octets.now m len) }
+    ensures some { IfSome result (HasAddress octets.now) }
+    ensures none { result ≡ None → (a : addresses.Address) → HasAddress octets.now a → IsAsked ipv4_alone a → ⊥ }
 {
-    let family = octets[7];
-    if family != 4 || !has_zeros(octets) {
-        return None;
+    match octets[7] {
+        4 => {
+            if !has_zeros(octets) {
+                return None;
+            }
+            Some(Address::V4(field4(octets, 8)))
+        }
+        6 => {
+            if ipv4_alone {
+                return None;
+            }
+            Some(Address::V6(field16(octets, 8)))
+        }
+        _ => None,
     }
+}
+
+/// What is told of the datagram, where 44 octets and those that it has stand at the front.
+#[inline(always)]
+fn meta_of(octets: &[u8], ipv4_alone: bool, len: usize) -> Option<Meta>
+    requires { 44 ≤ length octets.now }
+    ensures some { IfSome result (λ m. HasHead octets.now m len) }
+    ensures none { result ≡ None → (m : metas.Meta) → HasHead octets.now m len → IsAsked ipv4_alone m.peer.address → ⊥ }
+{
+    let address = address_of(octets, ipv4_alone)?;
     let ttl = ttl_of(octets[26], octets[27])?;
     Some(Meta {
         local: u16::from_be_bytes(field2(octets, 5)),
         peer: Endpoint {
-            address: Address::V4(field4(octets, 8)),
+            address,
             port: u16::from_be_bytes(field2(octets, 24)),
         },
         len,
@@ -58,11 +85,11 @@ fn meta_of(octets: &[u8], len: usize) -> Option<Meta>
     })
 }
 
-/// Reads the record of a datagram, where one of an IPv4 peer stands whole at the front.
-#[inline]
-pub fn read_datagram(octets: &[u8]) -> Option<(Meta, u64, &[u8], usize)>
+#[inline(always)]
+fn datagram_from(octets: &[u8], ipv4_alone: bool) -> Option<(Meta, u64, &[u8], usize)>
     ensures front { IfSome result (λ x. IsFront octets.now (Arrives (datagram_of x.0 x.1 x.2.now)) x.3) }
     ensures measured { IfSome result (λ x. x.0.len ≡ length x.2.now) }
+    ensures none { result ≡ None → (d : Datagram) (n : ℕ) → IsFront octets.now (Arrives d) n → IsAsked ipv4_alone d.peer.address → ⊥ }
 {
     if octets.len() < HEAD || octets[0] != 4 {
         return None;
@@ -72,7 +99,27 @@ pub fn read_datagram(octets: &[u8]) -> Option<(Meta, u64, &[u8], usize)>
         return None;
     }
     let len = body - 39;
-    let meta = meta_of(octets, len)?;
+    let meta = meta_of(octets, ipv4_alone, len)?;
     let t3 = u64::from_be_bytes(field8(octets, 36));
     Some((meta, t3, &octets[HEAD..HEAD + len], HEAD + len))
+}
+
+/// Reads the record of a datagram, where one stands whole at the front: what is told of the datagram, the moment of its
+/// reply in nanoseconds since the start of 1970, its octets, and how many octets the record has.
+pub fn read_datagram(octets: &[u8]) -> Option<(Meta, u64, &[u8], usize)>
+    ensures front { IfSome result (λ x. IsFront octets.now (Arrives (datagram_of x.0 x.1 x.2.now)) x.3) }
+    ensures measured { IfSome result (λ x. x.0.len ≡ length x.2.now) }
+    ensures none { result ≡ None → (d : Datagram) (n : ℕ) → IsFront octets.now (Arrives d) n → ⊥ }
+{
+    datagram_from(octets, false)
+}
+
+/// Reads the record of a datagram as `read_datagram` does, where its peer has an IPv4 address.
+#[inline(always)]
+pub fn read_ipv4_datagram(octets: &[u8]) -> Option<(Meta, u64, &[u8], usize)>
+    ensures front { IfSome result (λ x. IsFront octets.now (Arrives (datagram_of x.0 x.1 x.2.now)) x.3) }
+    ensures measured { IfSome result (λ x. x.0.len ≡ length x.2.now) }
+    ensures none { result ≡ None → (d : Datagram) (n : ℕ) → IsFront octets.now (Arrives d) n → family d.peer.address ≡ 4 → ⊥ }
+{
+    datagram_from(octets, true)
 }

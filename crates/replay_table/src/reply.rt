@@ -29,13 +29,7 @@ pub fn judge_session(session: &Session, octets: &[u8]) -> Judged
 
 /// Writes the reply to a datagram that is reflected.
 #[inline(always)]
-fn reflect_session(
-    session: &Session,
-    meta: &Meta,
-    t3: u64,
-    octets: &[u8],
-    out: &mut [u8],
-) -> Reply
+fn reflect_session(session: &Session, meta: &Meta, t3: u64, octets: &[u8], out: &mut [u8]) -> Reply
     requires keyed { IsKeyed session.now }
     requires judged { judgement session.now.key.mode session.now.config octets.now ≡ Reflect }
     requires limit { length octets.now ≤ 65507 }
@@ -62,13 +56,7 @@ fn reflect_session(
 
 /// Writes the answer to a datagram that is reflected, reply included, and says how many octets it has.
 #[inline(always)]
-fn write_here(
-    session: &Session,
-    meta: &Meta,
-    t3: u64,
-    octets: &[u8],
-    out: &mut [u8],
-) -> usize
+fn write_here(session: &Session, meta: &Meta, t3: u64, octets: &[u8], out: &mut [u8]) -> usize
     requires keyed { IsKeyed session.now }
     requires judged { judgement session.now.key.mode session.now.config octets.now ≡ Reflect }
     requires measured { meta.now.len ≡ length octets.now }

@@ -230,9 +230,7 @@ impl Sessions {
     {
         match item {
             Record::Open { key, extra, config } => open(&mut self.list, key, extra, config, out),
-            Record::Datagram { meta, t3, octets } => {
-                self.arrive(meta, *t3, octets, out)
-            }
+            Record::Datagram { meta, t3, octets } => { self.arrive(meta, *t3, octets, out) }
         }
     }
 }

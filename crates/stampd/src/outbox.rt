@@ -12,7 +12,7 @@ ghost use Rattle.replay_table.specs.Stands.{Stands};
 
 use port_io::{Failed, Sink, write_all};
 use refl_types::{Memory, Meta};
-use replay_format::{Outcome, Parsed, Record, read_datagram, read_record, write_outcome};
+use replay_format::{Outcome, Parsed, Record, read_ipv4_datagram, read_record, write_outcome};
 use replay_table::{ANSWER_ROOM, Sessions};
 use std::alloc::Global;
 
@@ -67,6 +67,7 @@ impl Outbox {
         ensures all { OnOk result (Appends (K.written out.old) (K.written out.new) (due self.old)) }
         ensures none { OnOk result ((due self.new ≡ []) × (self.new.used ≡ 0)) }
         ensures front { OnErr result (AppendsFront (K.written out.old) (K.written out.new) (due self.old)) }
+        ensures kept { OnErr result (due self.new ≡ due self.old) }
         ensures count { K.faults out.old ≤ K.faults out.new }
         ensures cause { OnErr result (Rises (K.faults out.old) (K.faults out.new)) }
     {
@@ -80,6 +81,7 @@ impl Outbox {
         ensures room { OnOk result (self.new.used + 65567 ≤ 524288) }
         ensures some { OnOk result ((octets : List ℕ) × Appends (K.written out.old) (K.written out.new) octets × (octets ++ due self.new ≡ due self.old)) }
         ensures front { OnErr result (AppendsFront (K.written out.old) (K.written out.new) (due self.old)) }
+        ensures kept { OnErr result (due self.new ≡ due self.old) }
         ensures count { K.faults out.old ≤ K.faults out.new }
         ensures cause { OnErr result (Rises (K.faults out.old) (K.faults out.new)) }
     {
@@ -105,8 +107,8 @@ impl Outbox {
         requires { self.old.used + 65567 ≤ 524288 }
         ensures { IsTaken result octets.now limit self.old self.new sessions.old sessions.new }
     {
-        // Nearly all records are whole datagrams.
-        let Some((meta, t3, text, len)) = read_datagram(octets) else {
+        // Most records are whole datagrams of IPv4 peers.
+        let Some((meta, t3, text, len)) = read_ipv4_datagram(octets) else {
             return self.take_any(sessions, octets, limit);
         };
         if len as u64 > limit {

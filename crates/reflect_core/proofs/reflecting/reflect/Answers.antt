@@ -1,4 +1,4 @@
-use Rattle.std.proofs.Common.{◌∙◌, length, refl, arith}
+use Rattle.std.proofs.Common.{◌∙◌, length, arith}
 use Rattle.stamp_packet.specs.Plain.{sender_of}
 use Rattle.stamp_auth.specs.Request.{auth_sender_of}
 use Rattle.twamp_test.specs.Request.{test_sender_of}
