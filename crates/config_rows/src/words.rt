@@ -129,15 +129,15 @@ pub fn from_words(words: &[u64; 12]) -> Config
 {
     let head = words[0];
     let parts = ConfigParts {
-        stateful: head / 16777216 % 2 == 1,
-        clock: clock_of(head / 33554432 % 2 == 1),
-        offset: (head / 65536 % 256) as u8,
-        synced: head / 134217728 % 2 == 1,
-        scale: (head / 256 % 256) as u8,
+        stateful: (head >> 24) % 2 == 1,
+        clock: clock_of((head >> 25) % 2 == 1),
+        offset: ((head >> 16) % 256) as u8,
+        synced: (head >> 27) % 2 == 1,
+        scale: ((head >> 8) % 256) as u8,
         multiplier: (head % 256) as u8,
         info: (words[1] as u32).to_be_bytes(),
         tlvs: words[2] as u32,
-        key: key_of(head / 67108864 % 2 == 1, &words[4..]),
+        key: key_of((head >> 26) % 2 == 1, &words[4..]),
     };
     match Config::make(parts) {
         Ok(config) => config,

@@ -4,6 +4,7 @@
 mod answer;
 mod code;
 mod fields;
+mod layout;
 mod record;
 mod whole;
 

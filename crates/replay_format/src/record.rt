@@ -8,6 +8,7 @@ ghost use Rattle.replay_format.specs.Reading.{datagram_at, opening_at, item_at};
 ghost use Rattle.replay_format.specs.View.{item_of, IsParsed, IsMeasured};
 
 use crate::fields::{body_len_at, config_parts_at, endpoint_at, extra_at, key_at, ttl_at};
+use crate::layout::{DATAGRAM_FIELDS, DATAGRAM_TAG, OPEN_LEN, OPEN_TAG};
 use crate::whole::read_datagram;
 use octet_format::{Unread, octet_in, octets_at, u16_at, u64_at, zeros_at};
 use refl_types::{Config, ConfigParts, Extra, Key, Meta};
@@ -35,7 +36,7 @@ fn opening_at(octets: &[u8]) -> Result<(Key, Extra, ConfigParts, &[u8]), Unread>
     ensures sound { IfOk result (λ x. IsConfig x.2) }
 {
     let rest = zeros_at(3, octets)?;
-    let (_, rest) = octet_in(103, 103, rest)?;
+    let (_, rest) = octet_in(OPEN_LEN, OPEN_LEN, rest)?;
     let (key, rest) = key_at(rest)?;
     let (extra, rest) = extra_at(key.mode, rest)?;
     let (config, rest) = config_parts_at(rest)?;
@@ -53,7 +54,7 @@ fn datagram_at(octets: &[u8]) -> Result<(Meta, u64, &[u8], &[u8]), Unread>
     let (ttl, rest) = ttl_at(rest)?;
     let (arrival, rest) = u64_at(rest)?;
     let (t3, rest) = u64_at(rest)?;
-    let len = (len as usize).saturating_sub(39);
+    let len = (len as usize).saturating_sub(DATAGRAM_FIELDS);
     let (text, rest) = octets_at(len, rest)?;
     Ok((
         Meta {
@@ -76,14 +77,14 @@ fn record_at(octets: &[u8]) -> Result<(Record, &[u8]), Unread>
 {
     match octets {
         [] => Err(Unread::More),
-        [1, rest @ ..] => {
+        [OPEN_TAG, rest @ ..] => {
             let (key, extra, parts, rest) = opening_at(rest)?;
             match Config::make(parts) {
                 Ok(config) => Ok((Record::Open { key, extra, config }, rest)),
                 Err(_) => unreachable!(),
             }
         }
-        [4, rest @ ..] => {
+        [DATAGRAM_TAG, rest @ ..] => {
             let (meta, t3, octets, rest) = datagram_at(rest)?;
             Ok((Record::Datagram { meta, t3, octets }, rest))
         }

@@ -9,6 +9,7 @@ ghost use Rattle.refl_types.specs.Spelling.{family};
 ghost use Rattle.replay_format.specs.Records.{Datagram, Arrives, datagram_of, ttl_octets};
 ghost use Rattle.replay_format.specs.View.{IsFront};
 
+use crate::layout::{DATAGRAM_BODY, DATAGRAM_FIELDS, DATAGRAM_TAG};
 use octet_format::{field2, field4, field8, field16};
 use refl_types::{Address, Endpoint, Meta};
 
@@ -91,14 +92,14 @@ fn datagram_from(octets: &[u8], ipv4_alone: bool) -> Option<(Meta, u64, &[u8], u
     ensures measured { IfSome result (λ x. x.0.len ≡ length x.2.now) }
     ensures none { result ≡ None → (d : Datagram) (n : ℕ) → IsFront octets.now (Arrives d) n → IsAsked ipv4_alone d.peer.address → ⊥ }
 {
-    if octets.len() < HEAD || octets[0] != 4 {
+    if octets.len() < HEAD || octets[0] != DATAGRAM_TAG {
         return None;
     }
     let body = u32::from_be_bytes(field4(octets, 1)) as usize;
-    if body < 39 || body > 65_546 || octets.len() - 5 < body {
+    if body < DATAGRAM_FIELDS || body > DATAGRAM_BODY || octets.len() - 5 < body {
         return None;
     }
-    let len = body - 39;
+    let len = body - DATAGRAM_FIELDS;
     let meta = meta_of(octets, ipv4_alone, len)?;
     let t3 = u64::from_be_bytes(field8(octets, 36));
     Some((meta, t3, &octets[HEAD..HEAD + len], HEAD + len))

@@ -133,13 +133,13 @@ pub fn from_key_words(words: &[u64; 4]) -> (Key, Extra)
 {
     let [first, second, ends, agreed] = *words;
     let key = Key {
-        local: (ends / 65536 % 65536) as u16,
+        local: ((ends >> 16) % (1 << 16)) as u16,
         peer: Endpoint {
             address: address_of(first, second, ends % 2 == 1),
-            port: (ends / 281474976710656) as u16,
+            port: (ends >> 48) as u16,
         },
-        mode: mode_of(ends / 2 % 32768),
-        ssid: (ends / 4294967296 % 65536) as u16,
+        mode: mode_of((ends >> 1) % (1 << 15)),
+        ssid: ((ends >> 32) % (1 << 16)) as u16,
     };
     let extra = Extra {
         symmetrical: agreed % 2 == 1,

@@ -22,7 +22,7 @@ pub const ROW_LIMIT: u64 = 1 << ROW_BITS;
 pub const GENERATION_LIMIT: u64 = 1 << GENERATION_BITS;
 
 /// What is added to a word to draw its sequence number.
-pub const DRAW: u64 = 4294967296;
+pub const DRAW: u64 = 1 << 32;
 
 /// The bit of a word that is set where the slot is closed.
 pub const CLOSED: u64 = 1;
