@@ -11,6 +11,7 @@ ghost use Rattle.replay_table.specs.Reflection.{sending};
 ghost use Rattle.replay_table.specs.Stands.{StandsFor, IsKeyed};
 
 use crate::session::Session;
+use crate::sessions::ANSWER_ROOM;
 use refl_types::{Meta, Mode};
 use reflect_core::{Judged, Reply, judge, judge_under, reflect, reflect_under};
 use replay_format::{REPLY_AT, frame_reply};
@@ -61,7 +62,7 @@ fn write_here(session: &Session, meta: &Meta, t3: u64, octets: &[u8], out: &mut 
     requires judged { judgement session.now.key.mode session.now.config octets.now ≡ Reflect }
     requires measured { meta.now.len ≡ length octets.now }
     requires limit { length octets.now ≤ 65507 }
-    requires room { 65567 ≤ length out.old }
+    requires room { ANSWER_ROOM ≤ length out.old }
     ensures octets { (e : Entry) → StandsFor session.now e → out.new ≡ answer_octets (Sent (sending e (datagram_of meta.now t3 octets.now))) ++ drop result out.old }
     ensures len { (e : Entry) → StandsFor session.now e → result ≡ length (answer_octets (Sent (sending e (datagram_of meta.now t3 octets.now)))) }
     ensures fits { result ≤ 65538 }
@@ -78,7 +79,7 @@ fn write_apart(session: &Session, meta: Meta, t3: u64, octets: &[u8], out: &mut 
     requires judged { judgement session.now.key.mode session.now.config octets.now ≡ Reflect }
     requires measured { meta.len ≡ length octets.now }
     requires limit { length octets.now ≤ 65507 }
-    requires room { 65567 ≤ length out.old }
+    requires room { ANSWER_ROOM ≤ length out.old }
     ensures octets { (e : Entry) → StandsFor session.now e → out.new ≡ answer_octets (Sent (sending e (datagram_of meta t3 octets.now))) ++ drop result out.old }
     ensures len { (e : Entry) → StandsFor session.now e → result ≡ length (answer_octets (Sent (sending e (datagram_of meta t3 octets.now)))) }
     ensures fits { result ≤ 65538 }
@@ -99,7 +100,7 @@ pub fn write_reflection(
     requires judged { judgement session.now.key.mode session.now.config octets.now ≡ Reflect }
     requires measured { meta.now.len ≡ length octets.now }
     requires limit { length octets.now ≤ 65507 }
-    requires room { 65567 ≤ length out.old }
+    requires room { ANSWER_ROOM ≤ length out.old }
     ensures octets { (e : Entry) → StandsFor session.now e → out.new ≡ answer_octets (Sent (sending e (datagram_of meta.now t3 octets.now))) ++ drop result out.old }
     ensures len { (e : Entry) → StandsFor session.now e → result ≡ length (answer_octets (Sent (sending e (datagram_of meta.now t3 octets.now)))) }
     ensures fits { result ≤ 65538 }

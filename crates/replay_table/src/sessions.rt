@@ -39,13 +39,14 @@ pub struct Sessions {
 impl Model for Sessions {
     ghost use Rattle.std.specs.Prelude.{◌≤◌, List, vec_len, vec_capacity};
     ghost use Rattle.replay_table.specs.declared.session.Session.{Session};
+    ghost use Rattle.replay_table.specs.declared.sessions.TheConstants.{SESSIONS};
     ghost use Rattle.replay_table.specs.Stands.{AreKeyed};
 
     ghost Value = { List Session };
 
     ghost view = { λ s. s.list.items };
 
-    ghost invariant = { λ s. (vec_len s.list ≤ 1024) × (1024 ≤ vec_capacity s.list) × AreKeyed s.list.items };
+    ghost invariant = { λ s. (vec_len s.list ≤ SESSIONS) × (SESSIONS ≤ vec_capacity s.list) × AreKeyed s.list.items };
 }
 
 #[tactic(auto, unfolding(refl_types::specs::Same::same_key))]
@@ -87,7 +88,7 @@ fn place_of(list: &[Session], meta: &Meta, octets: &[u8]) -> Option<usize>
 #[tactic(auto, unfolding(crate::specs::Outcomes::code_of))]
 fn code_of(bound: bool, clash: bool, count: usize, key: &Key, config: &Config) -> u8
     ensures value { (x : Extra) → result ≡ code_of bound clash count (record { key = key.now; extra = x; config = config.now }) }
-    ensures room { result ≡ 0 → count ≢ 1024 }
+    ensures room { result ≡ 0 → count ≢ SESSIONS }
     ensures keyed { result ≡ 0 → HasKey key.now.mode config.now }
 {
     if bound {
@@ -106,7 +107,7 @@ fn code_of(bound: bool, clash: bool, count: usize, key: &Key, config: &Config) -
 /// The code that an opening is answered with.
 fn opening_code(list: &[Session], key: &Key, config: &Config) -> u8
     ensures value { (x : Extra) (t : Table) → Stands list.now t → result ≡ opening_code t (record { key = key.now; extra = x; config = config.now }) }
-    ensures room { result ≡ 0 → length list.now ≢ 1024 }
+    ensures room { result ≡ 0 → length list.now ≢ SESSIONS }
     ensures keyed { result ≡ 0 → HasKey key.now.mode config.now }
 {
     let bound = is_bound(list, key);
@@ -116,11 +117,11 @@ fn opening_code(list: &[Session], key: &Key, config: &Config) -> u8
 
 /// Keeps a session in a list that has room for it.
 fn keep(list: &mut Vec<Session>, session: Session)
-    requires len { vec_len list.old < 1024 }
-    requires room { 1024 ≤ vec_capacity list.old }
+    requires len { vec_len list.old < SESSIONS }
+    requires room { SESSIONS ≤ vec_capacity list.old }
     ensures items { list.new.items ≡ list.old.items ++ session ∷ [] }
-    ensures len { vec_len list.new ≤ 1024 }
-    ensures room { 1024 ≤ vec_capacity list.new }
+    ensures len { vec_len list.new ≤ SESSIONS }
+    ensures room { SESSIONS ≤ vec_capacity list.new }
 {
     if list.push(session).is_err() {
         unreachable!();
@@ -130,7 +131,7 @@ fn keep(list: &mut Vec<Session>, session: Session)
 /// Writes why a datagram is not reflected.
 #[cold]
 fn write_unsent(cause: u8, out: &mut [u8]) -> usize
-    requires { 65567 ≤ length out.old }
+    requires { ANSWER_ROOM ≤ length out.old }
     ensures octets { out.new ≡ answer_octets (Unsent cause) ++ drop result out.old }
     ensures len { result ≡ length (answer_octets (Unsent cause)) }
     ensures fits { result ≤ 65538 }
@@ -144,7 +145,7 @@ fn arrive(list: &mut [Session], meta: &Meta, t3: u64, octets: &[u8], out: &mut [
     requires keyed { AreKeyed list.old }
     requires measured { meta.now.len ≡ length octets.now }
     requires limit { length octets.now ≤ 65507 }
-    requires room { 65567 ≤ length out.old }
+    requires room { ANSWER_ROOM ≤ length out.old }
     ensures keyed { AreKeyed list.new }
     ensures fits { result ≤ 65538 }
     ensures answered { (t : Table) → Stands list.old t → IsAnswered t list.new (Arrives (datagram_of meta.now t3 octets.now)) out.old out.new result }
@@ -168,14 +169,14 @@ fn arrive(list: &mut [Session], meta: &Meta, t3: u64, octets: &[u8], out: &mut [
 /// Answers an opening. The list has room for all sessions.
 fn open(list: &mut Vec<Session>, key: &Key, extra: &Extra, config: &Config, out: &mut [u8]) -> usize
     requires keyed { AreKeyed list.old.items }
-    requires out { 65567 ≤ length out.old }
-    requires len { vec_len list.old ≤ 1024 }
-    requires room { 1024 ≤ vec_capacity list.old }
+    requires out { ANSWER_ROOM ≤ length out.old }
+    requires len { vec_len list.old ≤ SESSIONS }
+    requires room { SESSIONS ≤ vec_capacity list.old }
     ensures answered { (t : Table) → Stands list.old.items t → IsAnswered t list.new.items (Opens (record { key = key.now; extra = extra.now; config = config.now })) out.old out.new result }
     ensures keyed { AreKeyed list.new.items }
     ensures fits { result ≤ 65538 }
-    ensures len { vec_len list.new ≤ 1024 }
-    ensures room { 1024 ≤ vec_capacity list.new }
+    ensures len { vec_len list.new ≤ SESSIONS }
+    ensures room { SESSIONS ≤ vec_capacity list.new }
 {
     let code = opening_code(list, key, config);
     if code != OPENED {
@@ -210,7 +211,7 @@ impl Sessions {
     /// nanoseconds since the start of 1970.
     #[inline(always)]
     pub fn arrive(&mut self, meta: &Meta, t3: u64, octets: &[u8], out: &mut [u8]) -> usize
-        requires room { 65567 ≤ length out.old }
+        requires room { ANSWER_ROOM ≤ length out.old }
         requires measured { meta.now.len ≡ length octets.now }
         requires limit { length octets.now ≤ 65507 }
         ensures answered { (t : Table) → Stands self.old t → IsAnswered t self.new (Arrives (datagram_of meta.now t3 octets.now)) out.old out.new result }
@@ -222,7 +223,7 @@ impl Sessions {
     /// Writes the answer to a record at the front, says how many octets it has, and keeps the table that the record
     /// leaves. Later octets stay.
     pub fn answer(&mut self, item: &Record, out: &mut [u8]) -> usize
-        requires room { 65567 ≤ length out.old }
+        requires room { ANSWER_ROOM ≤ length out.old }
         requires measured { IsMeasured item.now }
         requires fits { Fits (item_of item.now) }
         ensures answered { (t : Table) → Stands self.old t → IsAnswered t self.new (item_of item.now) out.old out.new result }

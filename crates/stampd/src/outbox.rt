@@ -57,7 +57,7 @@ impl Outbox {
 
     /// Whether the longest answer has room.
     pub fn has_room(&self) -> bool
-        ensures { IsTrue result ↔ (self.now.used + 65567 ≤ 524288) }
+        ensures { IsTrue result ↔ (self.now.used + ANSWER_ROOM ≤ ROOM) }
     {
         self.used + ANSWER_ROOM <= ROOM
     }
@@ -78,7 +78,7 @@ impl Outbox {
 
     /// Makes room for the longest answer: where there is none, what is due is written.
     pub fn make_room<K: Sink>(&mut self, out: &mut K) -> Result<(), Failed>
-        ensures room { OnOk result (self.new.used + 65567 ≤ 524288) }
+        ensures room { OnOk result (self.new.used + ANSWER_ROOM ≤ ROOM) }
         ensures some { OnOk result ((octets : List ℕ) × Appends (K.written out.old) (K.written out.new) octets × (octets ++ due self.new ≡ due self.old)) }
         ensures front { OnErr result (AppendsFront (K.written out.old) (K.written out.new) (due self.old)) }
         ensures kept { OnErr result (due self.new ≡ due self.old) }
@@ -93,7 +93,7 @@ impl Outbox {
 
     /// Adds the answer to a record.
     fn answer(&mut self, sessions: &mut Sessions, item: &Record)
-        requires room { self.old.used + 65567 ≤ 524288 }
+        requires room { self.old.used + ANSWER_ROOM ≤ ROOM }
         requires measured { IsMeasured item.now }
         requires fits { Fits (item_of item.now) }
         ensures { AnswersItem (item_of item.now) self.old self.new sessions.old sessions.new }
@@ -104,7 +104,7 @@ impl Outbox {
     /// Answers the record at the front of octets, unless it has more than `limit` of them.
     #[inline]
     pub fn take(&mut self, sessions: &mut Sessions, octets: &[u8], limit: u64) -> Taken
-        requires { self.old.used + 65567 ≤ 524288 }
+        requires { self.old.used + ANSWER_ROOM ≤ ROOM }
         ensures { IsTaken result octets.now limit self.old self.new sessions.old sessions.new }
     {
         // Most records are whole datagrams of IPv4 peers.
@@ -121,7 +121,7 @@ impl Outbox {
     /// Answers any record at the front of octets.
     #[inline(never)]
     fn take_any(&mut self, sessions: &mut Sessions, octets: &[u8], limit: u64) -> Taken
-        requires { self.old.used + 65567 ≤ 524288 }
+        requires { self.old.used + ANSWER_ROOM ≤ ROOM }
         ensures { IsTaken result octets.now limit self.old self.new sessions.old sessions.new }
     {
         match read_record(octets) {
@@ -139,7 +139,7 @@ impl Outbox {
 
     /// Adds where the stream left its grammar.
     pub fn leave(&mut self, offset: u64)
-        requires { self.old.used + 65567 ≤ 524288 }
+        requires { self.old.used + ANSWER_ROOM ≤ ROOM }
         ensures { due self.new ≡ due self.old ++ answer_octets (Left offset) }
     {
         self.used += leave_behind(offset, &mut self.octets, self.used);
@@ -148,7 +148,7 @@ impl Outbox {
 
 /// Writes an answer from a place on.
 fn answer_behind(sessions: &mut Sessions, item: &Record, octets: &mut [u8], at: usize) -> usize
-    requires room { at + 65567 ≤ length octets.old }
+    requires room { at + ANSWER_ROOM ≤ length octets.old }
     requires measured { IsMeasured item.now }
     requires fits { Fits (item_of item.now) }
     ensures fits { result ≤ 65538 }
@@ -167,7 +167,7 @@ fn reply_behind(
     octets: &mut [u8],
     at: usize,
 ) -> usize
-    requires room { at + 65567 ≤ length octets.old }
+    requires room { at + ANSWER_ROOM ≤ length octets.old }
     requires measured { meta.now.len ≡ length text.now }
     requires limit { length text.now ≤ 65507 }
     ensures fits { result ≤ 65538 }
@@ -178,7 +178,7 @@ fn reply_behind(
 
 /// Writes an offset from a place on.
 fn leave_behind(offset: u64, octets: &mut [u8], at: usize) -> usize
-    requires { at + 65567 ≤ length octets.old }
+    requires { at + ANSWER_ROOM ≤ length octets.old }
     ensures fits { result ≤ 65538 }
     ensures answer { take (at + result) octets.new ≡ take at octets.old ++ answer_octets (Left offset) }
 {

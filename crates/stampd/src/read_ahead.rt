@@ -67,9 +67,9 @@ impl ReadAhead {
 
     /// Reads more octets behind those that are pending. 0 is the end of the source.
     pub fn fill<S: Source>(&mut self, input: &mut S) -> Result<usize, Failed>
-        requires { length (pending self.old) < 524288 }
+        requires { length (pending self.old) < ROOM }
         ensures ok { IfOk result (λ n. (octets : List ℕ) × (length octets ≡ n) × (pending self.new ≡ pending self.old ++ octets)
-            × Consumes (S.left input.old) (S.left input.new) octets × (n ≡ 0 → IsAtEnd (S.left input.new)) × (n ≤ 524288)) }
+            × Consumes (S.left input.old) (S.left input.new) octets × (n ≡ 0 → IsAtEnd (S.left input.new)) × (n ≤ ROOM)) }
         ensures err { OnErr result ((pending self.new ≡ pending self.old) × Keeps (S.left input.old) (S.left input.new)) }
         ensures count { S.faults input.old ≤ S.faults input.new }
         ensures cause { OnErr result (Rises (S.faults input.old) (S.faults input.new)) }
