@@ -27,6 +27,13 @@ const KEY: [u8; 64] = [
     0, 0, 0, 0,
 ];
 
+/// The same with the key, which supports every TLV.
+const KEYED: ConfigParts = ConfigParts {
+    tlvs: 40,
+    key: Some(KEY),
+    ..PARTS
+};
+
 const NO_EXTRA: Extra = Extra {
     symmetrical: false,
     reflect: 0,
@@ -225,21 +232,13 @@ fn measured_tlvs_are_filled_in(rt: HostRuntime) -> Result<(), Fail> {
 fn an_hmac_tlv_is_checked_and_sealed(rt: HostRuntime) -> Result<(), Fail> {
     let cases: [(ConfigParts, u32, &[u8], &[u8]); 7] = [
         (
-            ConfigParts {
-                tlvs: 40,
-                key: Some(KEY),
-                ..PARTS
-            },
+            KEYED,
             0,
             b"\x80\x08\x00\x10\x00\x00\x00\x00\x00\x00\x00\x00\x00\x00\x00\x00\x00\x00\x00\x00\x80\x05\x00\x0C\x00\x00\x00\x00\x00\x00\x00\x00\x00\x00\x00\x00",
             b"\xA0\x08\x00\x10\x00\x00\x00\x00\x00\x00\x00\x00\x00\x00\x00\x00\x00\x00\x00\x00\xA0\x05\x00\x0C\x00\x00\x00\x00\x00\x00\x00\x00\x00\x00\x00\x00",
         ),
         (
-            ConfigParts {
-                tlvs: 40,
-                key: Some(KEY),
-                ..PARTS
-            },
+            KEYED,
             9,
             b"\x80\x08\x00\x10\x03\xBD\x18\xD3\x08\x6C\x94\x7F\x19\x7A\xAB\x44\xCB\x51\x2D\x89",
             b"\x00\x08\x00\x10\x27\x0E\x76\x8C\x74\x9C\x61\xDD\x66\xA9\x92\xAC\x95\x28\xAF\x58",
@@ -256,41 +255,25 @@ fn an_hmac_tlv_is_checked_and_sealed(rt: HostRuntime) -> Result<(), Fail> {
             b"\x00\x01\x00\x02\xAA\xBB\x00\x08\x00\x10\x42\xAC\xBB\x77\xA7\x35\x26\x87\x6C\x52\x47\xCC\x5E\x3D\x56\x1D",
         ),
         (
-            ConfigParts {
-                tlvs: 40,
-                key: Some(KEY),
-                ..PARTS
-            },
+            KEYED,
             9,
             b"\x80\x01\x00\x02\xAA\xBB\x80\x08\x00\x10\x8A\x28\x0F\xF5\x05\x3D\xEA\xEF\x3B\xE6\xCD\x6A\x27\x0E\x39\xA5\x80\x01\x00\x02\xAA\xBB",
             b"\x00\x01\x00\x02\xAA\xBB\x00\x08\x00\x10\xE0\xCC\x74\x52\xC7\x42\x34\xA7\xA7\x74\xBC\x89\x7B\x35\x4E\x39\x00\x01\x00\x02\xAA\xBB",
         ),
         (
-            ConfigParts {
-                tlvs: 40,
-                key: Some(KEY),
-                ..PARTS
-            },
+            KEYED,
             9,
             b"\x80\x03\x00\x02\x00\x00\x80\x08\x00\x10\xA6\xEE\xFA\x4A\x04\xA0\x43\xF7\xFA\x3D\xC9\x21\x3A\x38\x78\xCA",
             b"\x40\x03\x00\x02\x00\x00\x00\x08\x00\x10\xCC\x4D\x95\xD0\xA8\xEF\x5B\x36\x65\x24\xDA\x4E\x3E\xF4\xDF\x8F",
         ),
         (
-            ConfigParts {
-                tlvs: 40,
-                key: Some(KEY),
-                ..PARTS
-            },
+            KEYED,
             9,
             b"\x80\x01\x00\x02\xAA\xBB\x80\x08\x00\x10\x8A\x28\x0F\xF5\x05\x3D\xEA\xEF\x3B\xE6\xCD\x6A\x27\x0E\x39\xA5\x80\xC8\x00\x00",
             b"\xA0\x01\x00\x02\xAA\xBB\xA0\x08\x00\x10\x8A\x28\x0F\xF5\x05\x3D\xEA\xEF\x3B\xE6\xCD\x6A\x27\x0E\x39\xA5\xA0\xC8\x00\x00",
         ),
         (
-            ConfigParts {
-                tlvs: 40,
-                key: Some(KEY),
-                ..PARTS
-            },
+            KEYED,
             9,
             b"\x80\xC8\x00\x00\x80\x08\xFF\xFF",
             b"\xA0\xC8\x00\x00\xA0\x08\xFF\xFF",
@@ -309,65 +292,26 @@ fn an_hmac_tlv_is_checked_and_sealed(rt: HostRuntime) -> Result<(), Fail> {
 fn a_tail_of_an_authenticated_session_needs_an_hmac_tlv(rt: HostRuntime) -> Result<(), Fail> {
     let cases: [(ConfigParts, u32, &[u8], &[u8]); 6] = [
         (
-            ConfigParts {
-                tlvs: 40,
-                key: Some(KEY),
-                ..PARTS
-            },
+            KEYED,
             0,
             b"\x80\x01\x00\x02\xAA\xBB",
             b"\x00\x01\x00\x02\xAA\xBB",
         ),
+        (KEYED, 0, b"\x80\xC8\x00\x00", b"\xA0\xC8\x00\x00"),
         (
-            ConfigParts {
-                tlvs: 40,
-                key: Some(KEY),
-                ..PARTS
-            },
-            0,
-            b"\x80\xC8\x00\x00",
-            b"\xA0\xC8\x00\x00",
-        ),
-        (
-            ConfigParts {
-                tlvs: 40,
-                key: Some(KEY),
-                ..PARTS
-            },
+            KEYED,
             0,
             b"\x80\x01\x00\x02\xAA\xBB\x80\x01\x00\x02\xAA\xBB",
             b"\xA0\x01\x00\x02\xAA\xBB\xA0\x01\x00\x02\xAA\xBB",
         ),
         (
-            ConfigParts {
-                tlvs: 40,
-                key: Some(KEY),
-                ..PARTS
-            },
+            KEYED,
             0,
             b"\x80\xC8\x00\x00\x80\x08\x00\x10\x66\x69\x9C\x97\xFC\xA6\x1B\x34\xCC\xEB\xBE\x64\xB6\x17\xF5\xCF",
             b"\x80\xC8\x00\x00\x00\x08\x00\x10\x64\x87\xE1\x89\x71\xCB\x75\xE7\xBA\x71\xB8\xE1\xF1\xA0\x73\xFC",
         ),
-        (
-            ConfigParts {
-                tlvs: 40,
-                key: Some(KEY),
-                ..PARTS
-            },
-            0,
-            b"\x80\x01\x00\x09\xAA",
-            b"\x40\x01\x00\x09\xAA",
-        ),
-        (
-            ConfigParts {
-                tlvs: 40,
-                key: Some(KEY),
-                ..PARTS
-            },
-            0,
-            b"\x80\x08\x00",
-            b"\x80\x08\x00",
-        ),
+        (KEYED, 0, b"\x80\x01\x00\x09\xAA", b"\x40\x01\x00\x09\xAA"),
+        (KEYED, 0, b"\x80\x08\x00", b"\x80\x08\x00"),
     ];
     for (parts, n, tail, want) in cases {
         let input = joined(rt.alloc(), AUTH_REQUEST, tail)?;

@@ -29,6 +29,10 @@ fn query(ssid: u16) -> Query {
     }
 }
 
+fn event(by: Actor, answer: Answer) -> Event {
+    Event { by, answer }
+}
+
 // A plan that is being written.
 #[derive(Drop)]
 struct Plan {
@@ -183,30 +187,24 @@ fn a_configuration_may_change_between_a_sight_and_its_draw(rt: HostRuntime) -> R
     )?;
     plan.draw(1, 0)?;
     let history = [
-        Event {
-            by: 0,
-            answer: Answer::Opened { key: k, row: 1 },
-        },
-        Event {
-            by: 1,
-            answer: Answer::Seen {
+        event(0, Answer::Opened { key: k, row: 1 }),
+        event(
+            1,
+            Answer::Seen {
                 query: query(7),
                 key: k,
                 row: 1,
             },
-        },
-        Event {
-            by: 0,
-            answer: Answer::Configured { key: k, row: 2 },
-        },
-        Event {
-            by: 1,
-            answer: Answer::Drew {
+        ),
+        event(0, Answer::Configured { key: k, row: 2 }),
+        event(
+            1,
+            Answer::Drew {
                 key: k,
                 number: 0,
                 row: 2,
             },
-        },
+        ),
     ];
     assert_eq!(rt; explains(rt.alloc(), &ONE, &plan, &history), Ok(true));
     Ok(())
@@ -256,52 +254,46 @@ fn a_slot_that_is_held_after_its_closing_is_not_reserved_until_it_is_let_go(
     plan.find(1, 0, query(2))?;
     plan.draw(1, 0)?;
     let history = [
-        Event {
-            by: 0,
-            answer: Answer::Opened { key: first, row: 1 },
-        },
-        Event {
-            by: 1,
-            answer: Answer::Seen {
+        event(0, Answer::Opened { key: first, row: 1 }),
+        event(
+            1,
+            Answer::Seen {
                 query: query(1),
                 key: first,
                 row: 1,
             },
-        },
-        Event {
-            by: 0,
-            answer: Answer::Closed {
+        ),
+        event(
+            0,
+            Answer::Closed {
                 key: first,
                 count: 0,
             },
-        },
-        Event {
-            by: 1,
-            answer: Answer::Late { query: query(1) },
-        },
-        Event {
-            by: 0,
-            answer: Answer::Opened {
+        ),
+        event(1, Answer::Late { query: query(1) }),
+        event(
+            0,
+            Answer::Opened {
                 key: second,
                 row: 1,
             },
-        },
-        Event {
-            by: 1,
-            answer: Answer::Seen {
+        ),
+        event(
+            1,
+            Answer::Seen {
                 query: query(2),
                 key: second,
                 row: 1,
             },
-        },
-        Event {
-            by: 1,
-            answer: Answer::Drew {
+        ),
+        event(
+            1,
+            Answer::Drew {
                 key: second,
                 number: 0,
                 row: 1,
             },
-        },
+        ),
     ];
     assert_eq!(rt; explains(rt.alloc(), &size, &plan, &history), Ok(true));
     Ok(())
@@ -346,46 +338,43 @@ fn a_session_that_stands_still_between_two_peeks_expires(rt: HostRuntime) -> Res
             read: 0,
         },
     )?;
-    let counted = Event {
-        by: 0,
-        answer: Answer::Counted {
+    let counted = event(
+        0,
+        Answer::Counted {
             key: k,
             count: 1,
             row: 1,
         },
-    };
+    );
     let history = [
-        Event {
-            by: 0,
-            answer: Answer::Opened { key: k, row: 1 },
-        },
-        Event {
-            by: 1,
-            answer: Answer::Seen {
+        event(0, Answer::Opened { key: k, row: 1 }),
+        event(
+            1,
+            Answer::Seen {
                 query: query(1),
                 key: k,
                 row: 1,
             },
-        },
-        Event {
-            by: 1,
-            answer: Answer::Drew {
+        ),
+        event(
+            1,
+            Answer::Drew {
                 key: k,
                 number: 0,
                 row: 1,
             },
-        },
+        ),
         counted,
         counted,
         counted,
-        Event {
-            by: 0,
-            answer: Answer::Expired {
+        event(
+            0,
+            Answer::Expired {
                 key: k,
                 count: 1,
                 row: 1,
             },
-        },
+        ),
     ];
     assert_eq!(rt; explains(rt.alloc(), &ONE, &plan, &history), Ok(true));
     let last = plan.moves.len();
@@ -496,22 +485,16 @@ fn steps_that_no_definition_allows_are_refused(rt: HostRuntime) -> Result<(), Fa
 #[test]
 fn a_miss_of_a_bound_session_is_explained_by_no_order(rt: HostRuntime) -> Result<(), Fail> {
     let k = key(Mode::Plain, 1);
-    let opened = Event {
-        by: 0,
-        answer: Answer::Opened { key: k, row: 1 },
-    };
-    let missed = Event {
-        by: 1,
-        answer: Answer::Missed { query: query(1) },
-    };
-    let drew = Event {
-        by: 1,
-        answer: Answer::Drew {
+    let opened = event(0, Answer::Opened { key: k, row: 1 });
+    let missed = event(1, Answer::Missed { query: query(1) });
+    let drew = event(
+        1,
+        Answer::Drew {
             key: k,
             number: 0,
             row: 1,
         },
-    };
+    );
     assert_eq!(rt; is_legal(rt.alloc(), &[missed, opened]), Ok(true));
     assert_eq!(rt; is_legal(rt.alloc(), &[opened, missed]), Ok(false));
     assert_eq!(rt; is_legal(rt.alloc(), &[opened, drew, drew]), Ok(false));
