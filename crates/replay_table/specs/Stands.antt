@@ -1,11 +1,13 @@
 -- What the code keeps of a table stands for the table: its counts are those of the table modulo 2^32.
-use Rattle.std.specs.Prelude.{ℕ, ◌≡◌, ◌%◌, ◌^◌, List, [], ◌∷◌, ◌++◌, length, drop}
-use Rattle.reflect_core.specs.Judgement.{HasKey}
-use Rattle.replay_format.specs.Records.{Item}
-use Rattle.replay_format.specs.Answers.{answer_octets}
+use Rattle.std.specs.Prelude.{ℕ, ◌≡◌, ◌≤◌, ◌%◌, ◌^◌, List, [], ◌∷◌, ◌++◌, length, drop}
+use Rattle.reflect_core.specs.Judgement.{HasKey, judgement}
+use Rattle.reflect_core.specs.declared.judging.Judged.TheVariants.{Reflect}
+use Rattle.replay_format.specs.Records.{Item, Datagram}
+use Rattle.replay_format.specs.Answers.{Sent, answer_octets}
 use Rattle.replay_table.specs.declared.session.Session.{Session}
 use Rattle.replay_table.specs.Hashes.{IsHashOf}
 use Rattle.replay_table.specs.Table.{Entry, Table}
+use Rattle.replay_table.specs.Reflection.{sending}
 use Rattle.replay_table.specs.Outcomes.{answer, after}
 
 pub record StandsFor (s : Session) (e : Entry) : Type 0 where
@@ -28,6 +30,18 @@ pub record IsKeyed (s : Session) : Type 0 where
 abbrev pub AreKeyed : List Session → Type 0
 AreKeyed [] = Unit {0}
 AreKeyed (s ∷ ss) = IsKeyed s × AreKeyed ss
+
+-- a datagram of the session that is reflected
+pub record IsReflected (s : Session) (octets : List ℕ) : Type 0 where
+  pub keyed : IsKeyed s
+  pub judged : judgement s.key.mode s.config octets ≡ Reflect
+  pub limit : length octets ≤ 65507
+
+-- the answer to such a datagram was written at the front, n octets
+pub record IsSent (s : Session) (d : Datagram) (before written : List ℕ) (n : ℕ) : Type 0 where
+  pub octets : (e : Entry) → StandsFor s e → written ≡ answer_octets (Sent (sending e d)) ++ drop n before
+  pub len : (e : Entry) → StandsFor s e → n ≡ length (answer_octets (Sent (sending e d)))
+  pub fits : n ≤ 65538
 
 -- the answer to a record was written at the front, n octets, and the table after it is kept
 pub record IsAnswered (t : Table) (new : List Session) (item : Item) (before written : List ℕ) (n : ℕ) : Type 0 where

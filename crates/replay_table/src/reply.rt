@@ -1,14 +1,10 @@
 //! The answer to a datagram that is reflected.
 
-ghost use Rattle.std.specs.Prelude.{ℕ, ◌≡◌, ◌+◌, ◌≤◌, ◌++◌, length, drop};
+ghost use Rattle.std.specs.Prelude.{◌≡◌, ◌≤◌, length};
 ghost use Rattle.replay_format.specs.Records.{datagram_of};
-ghost use Rattle.replay_format.specs.Answers.{Sent, answer_octets};
 ghost use Rattle.reflect_core.specs.Judgement.{judgement};
 ghost use Rattle.reflect_core.specs.Reflection.{reflection, IsReply};
-ghost use Rattle.reflect_core.specs.declared.judging.Judged.TheVariants.{Reflect};
-ghost use Rattle.replay_table.specs.Table.{Entry};
-ghost use Rattle.replay_table.specs.Reflection.{sending};
-ghost use Rattle.replay_table.specs.Stands.{StandsFor, IsKeyed};
+ghost use Rattle.replay_table.specs.Stands.{IsKeyed, IsReflected, IsSent};
 
 use crate::session::Session;
 use crate::sessions::ANSWER_ROOM;
@@ -31,9 +27,7 @@ pub fn judge_session(session: &Session, octets: &[u8]) -> Judged
 /// Writes the reply to a datagram that is reflected.
 #[inline(always)]
 fn reflect_session(session: &Session, meta: &Meta, t3: u64, octets: &[u8], out: &mut [u8]) -> Reply
-    requires keyed { IsKeyed session.now }
-    requires judged { judgement session.now.key.mode session.now.config octets.now ≡ Reflect }
-    requires limit { length octets.now ≤ 65507 }
+    requires reflected { IsReflected session.now octets.now }
     requires room { 65536 ≤ length out.old }
     ensures reply { IsReply (reflection session.now.key session.now.extra session.now.config session.now.count meta.now t3 octets.now) result out.old out.new }
     ensures limit { result.len ≤ 65507 }
@@ -58,14 +52,10 @@ fn reflect_session(session: &Session, meta: &Meta, t3: u64, octets: &[u8], out: 
 /// Writes the answer to a datagram that is reflected, reply included, and says how many octets it has.
 #[inline(always)]
 fn write_here(session: &Session, meta: &Meta, t3: u64, octets: &[u8], out: &mut [u8]) -> usize
-    requires keyed { IsKeyed session.now }
-    requires judged { judgement session.now.key.mode session.now.config octets.now ≡ Reflect }
+    requires reflected { IsReflected session.now octets.now }
     requires measured { meta.now.len ≡ length octets.now }
-    requires limit { length octets.now ≤ 65507 }
     requires room { ANSWER_ROOM ≤ length out.old }
-    ensures octets { (e : Entry) → StandsFor session.now e → out.new ≡ answer_octets (Sent (sending e (datagram_of meta.now t3 octets.now))) ++ drop result out.old }
-    ensures len { (e : Entry) → StandsFor session.now e → result ≡ length (answer_octets (Sent (sending e (datagram_of meta.now t3 octets.now)))) }
-    ensures fits { result ≤ 65538 }
+    ensures { IsSent session.now (datagram_of meta.now t3 octets.now) out.old out.new result }
 {
     let reply = reflect_session(session, meta, t3, octets, &mut out[REPLY_AT..]);
     frame_reply(reply.from, &reply.to, session.count, reply.len, out);
@@ -75,14 +65,10 @@ fn write_here(session: &Session, meta: &Meta, t3: u64, octets: &[u8], out: &mut 
 /// The same, out of line.
 #[inline(never)]
 fn write_apart(session: &Session, meta: Meta, t3: u64, octets: &[u8], out: &mut [u8]) -> usize
-    requires keyed { IsKeyed session.now }
-    requires judged { judgement session.now.key.mode session.now.config octets.now ≡ Reflect }
+    requires reflected { IsReflected session.now octets.now }
     requires measured { meta.len ≡ length octets.now }
-    requires limit { length octets.now ≤ 65507 }
     requires room { ANSWER_ROOM ≤ length out.old }
-    ensures octets { (e : Entry) → StandsFor session.now e → out.new ≡ answer_octets (Sent (sending e (datagram_of meta t3 octets.now))) ++ drop result out.old }
-    ensures len { (e : Entry) → StandsFor session.now e → result ≡ length (answer_octets (Sent (sending e (datagram_of meta t3 octets.now)))) }
-    ensures fits { result ≤ 65538 }
+    ensures { IsSent session.now (datagram_of meta t3 octets.now) out.old out.new result }
 {
     write_here(session, &meta, t3, octets, out)
 }
@@ -96,14 +82,10 @@ pub fn write_reflection(
     octets: &[u8],
     out: &mut [u8],
 ) -> usize
-    requires keyed { IsKeyed session.now }
-    requires judged { judgement session.now.key.mode session.now.config octets.now ≡ Reflect }
+    requires reflected { IsReflected session.now octets.now }
     requires measured { meta.now.len ≡ length octets.now }
-    requires limit { length octets.now ≤ 65507 }
     requires room { ANSWER_ROOM ≤ length out.old }
-    ensures octets { (e : Entry) → StandsFor session.now e → out.new ≡ answer_octets (Sent (sending e (datagram_of meta.now t3 octets.now))) ++ drop result out.old }
-    ensures len { (e : Entry) → StandsFor session.now e → result ≡ length (answer_octets (Sent (sending e (datagram_of meta.now t3 octets.now)))) }
-    ensures fits { result ≤ 65538 }
+    ensures { IsSent session.now (datagram_of meta.now t3 octets.now) out.old out.new result }
 {
     match session.key.mode {
         // Most sessions are of this mode.

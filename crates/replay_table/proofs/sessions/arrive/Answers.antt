@@ -30,11 +30,15 @@ judge_session-requires c =
     let p = position-Some (λ (s : Session). matches (query_of m.local m.peer c.args.octets.now) s.key) c.args.list.now c.in-Some.place c.index-list-place.result (sym c.in-Some.ensures) in
     keyed-at c.args.list.now c.in-Some.place c.index-list-place.result c.requires.keyed p.0
 
-pub write_reflection-len-requires-clause-keyed : goal.write_reflection-len-requires-clause-keyed
-write_reflection-len-requires-clause-keyed c =
+pub write_reflection-len-requires-clause-reflected : goal.write_reflection-len-requires-clause-reflected
+write_reflection-len-requires-clause-reflected c =
     let m = c.args.meta.now in
     let p = position-Some (λ (s : Session). matches (query_of m.local m.peer c.args.octets.now) s.key) c.args.list.now c.in-Some.place c.index-list-place.result (sym c.in-Some.ensures) in
-    keyed-at c.args.list.now c.in-Some.place c.index-list-place.result c.requires.keyed p.0
+    record {
+      keyed = keyed-at c.args.list.now c.in-Some.place c.index-list-place.result c.requires.keyed p.0;
+      judged = sym c.judge_session.ensures ∙ c.in-Reflect.is;
+      limit = c.requires.limit;
+    }
 
 pub returns-in-Silent-Short-clause-answered : goal.returns-in-Silent-Short-clause-answered
 returns-in-Silent-Short-clause-answered c = λ t st.
