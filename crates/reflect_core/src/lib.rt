@@ -9,5 +9,5 @@ mod tails;
 #[cfg(test)]
 mod tests;
 
-pub use judging::{Judged, judge, judge_under};
-pub use reflecting::{Reply, reflect, reflect_under};
+pub use judging::{Judged, judge, judge_by};
+pub use reflecting::{Reply, reflect, reflect_by};

@@ -1,14 +1,16 @@
 //! The TLVs of a reply (RFC 8972, section 4), written in one pass.
 
 ghost use Rattle.std.specs.Prelude.{◌≡◌, ◌+◌, ◌≤◌, ◌++◌, length, take, slice_index_or};
+ghost use Rattle.hmac_sha256.specs.Hmac.{IsHashOf};
 ghost use Rattle.tlv_chain.specs.Split.{split};
 ghost use Rattle.reflect_core.specs.Tail.{failed_reply, processed_reply, WritesTail, tail_reply, with_flags, rest_flags};
 
+use hmac_sha256::KeyedHash;
 use octet_format::{field4, put};
 use refl_types::{Config, Mode};
 use tlv_actions::{Acted, ReplyFacts, act, copy_tlv, is_understood};
 use tlv_chain::Walk;
-use tlv_integrity::{Integrity, check, seal};
+use tlv_integrity::{Integrity, check_by, seal_by};
 
 /// The U flag (RFC 8972, section 4).
 const UNRECOGNIZED: u8 = 0x80;
@@ -103,21 +105,23 @@ fn process(config: &Config, n: u32, tail: &[u8], out: &mut [u8])
 pub fn write_tail(
     mode: Mode,
     config: &Config,
+    hash: &Option<KeyedHash>,
     n: u32,
     asked: &[u8; 4],
     answered: &[u8; 4],
     tail: &[u8],
     out: &mut [u8],
 )
-    requires { length out.old ≡ length tail.now }
+    requires hash { IsHashOf hash.now config.now.key }
+    requires len { length out.old ≡ length tail.now }
     ensures { out.new ≡ tail_reply mode config.now n asked.now answered.now tail.now }
 {
-    match check(mode, config, asked, tail) {
+    match check_by(mode, config, hash, asked, tail) {
         Integrity::Failed => flag_all(tail, out),
         Integrity::Absent => process(config, n, tail, out),
         Integrity::Passed(at) => {
             process(config, n, tail, out);
-            seal(config, answered, out, at);
+            seal_by(config, hash, answered, out, at);
         }
     }
 }
@@ -127,12 +131,14 @@ pub fn write_tail(
 fn write_tail_at(
     mode: Mode,
     config: &Config,
+    hash: &Option<KeyedHash>,
     n: u32,
     sequence: u32,
     at: usize,
     input: &[u8],
     out: &mut [u8],
 )
+    requires hash { IsHashOf hash.now config.now.key }
     requires base { 4 ≤ at }
     requires tail { at ≤ length input.now }
     requires room { length input.now ≤ length out.old }
@@ -144,6 +150,7 @@ fn write_tail_at(
     write_tail(
         mode,
         config,
+        hash,
         n,
         &asked,
         &answered,
@@ -157,18 +164,20 @@ fn write_tail_at(
 pub fn write_tail_after(
     mode: Mode,
     config: &Config,
+    hash: &Option<KeyedHash>,
     n: u32,
     sequence: u32,
     at: usize,
     input: &[u8],
     out: &mut [u8],
 )
+    requires hash { IsHashOf hash.now config.now.key }
     requires base { 4 ≤ at }
     requires tail { at ≤ length input.now }
     requires room { length input.now ≤ length out.old }
     ensures { WritesTail mode config.now n sequence at input.now out.old out.new }
 {
     if input.len() > at {
-        write_tail_at(mode, config, n, sequence, at, input, out);
+        write_tail_at(mode, config, hash, n, sequence, at, input, out);
     }
 }

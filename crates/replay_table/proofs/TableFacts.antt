@@ -13,6 +13,7 @@ use Rattle.refl_types.specs.Same.{same_endpoint, same_mode, same_key}
 use Rattle.refl_types.proofs.SameFacts.{key_same, same_key-refl}
 use Rattle.session_key.specs.declared.matching.Query.{Query}
 use Rattle.session_key.specs.Matching.{matches}
+use Rattle.hmac_sha256.specs.Hmac.{IsHashOf}
 use Rattle.reflect_core.specs.Judgement.{judgement}
 use Rattle.replay_table.specs.declared.session.Session.{Session}
 use Rattle.replay_table.specs.Table.{Entry, Table, is_bound, has_clash, session_for, with_entry, update, raised}
@@ -124,6 +125,10 @@ keyed-set (s ∷ ss) (suc i) r all one = (all.0, keyed-set ss i r all.1 one)
 pub keyed-push : (ss : List Session) (r : Session) → AreKeyed ss → IsKeyed r → AreKeyed (ss ++ r ∷ [])
 keyed-push [] r all one = (one, tt)
 keyed-push (s ∷ ss) r all one = (all.0, keyed-push ss r all.1 one)
+
+pub hashed : (hash key : Option (List ℕ)) → hash ≡ key → IsHashOf hash key
+hashed None key e = tt
+hashed (Some h) key e = sym e
 
 pub judged-same : (s : Session) (e : Entry) (octets : List ℕ) → StandsFor s e → judgement e.key.mode e.config octets ≡ judgement s.key.mode s.config octets
 judged-same s e octets st =

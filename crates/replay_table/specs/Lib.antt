@@ -1,5 +1,4 @@
 pub mod Table
 pub mod Reflection
 pub mod Outcomes
-pub mod Hashes
 pub mod Stands

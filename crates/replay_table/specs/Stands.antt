@@ -5,7 +5,7 @@ use Rattle.reflect_core.specs.declared.judging.Judged.TheVariants.{Reflect}
 use Rattle.replay_format.specs.Records.{Item, Datagram}
 use Rattle.replay_format.specs.Answers.{Sent, answer_octets}
 use Rattle.replay_table.specs.declared.session.Session.{Session}
-use Rattle.replay_table.specs.Hashes.{IsHashOf}
+use Rattle.hmac_sha256.specs.Hmac.{IsHashOf}
 use Rattle.replay_table.specs.Table.{Entry, Table}
 use Rattle.replay_table.specs.Reflection.{sending}
 use Rattle.replay_table.specs.Outcomes.{answer, after}
@@ -25,7 +25,7 @@ Stands (s ∷ ss) (e ∷ t) = StandsFor s e × Stands ss t
 -- a session of mode Auth has an HMAC key, and hashed blocks are those of its key
 pub record IsKeyed (s : Session) : Type 0 where
   pub key : HasKey s.key.mode s.config
-  pub hash : IsHashOf s.hash s.key.mode s.config
+  pub hash : IsHashOf s.hash s.config.key
 
 abbrev pub AreKeyed : List Session → Type 0
 AreKeyed [] = Unit {0}

@@ -1,9 +1,9 @@
 //! A session as a replay keeps it.
 
-ghost use Rattle.replay_table.specs.Hashes.{IsHashOf};
+ghost use Rattle.std.specs.Prelude.{◌≡◌};
 
 use hmac_sha256::KeyedHash;
-use refl_types::{Config, Extra, Key, Mode};
+use refl_types::{Config, Extra, Key};
 
 /// A session, with the count of numbers that it has drawn, modulo 2^32.
 #[derive(Drop)]
@@ -11,17 +11,17 @@ pub struct Session {
     pub key: Key,
     pub extra: Extra,
     pub config: Config,
-    /// In mode Auth the HMAC key, whose blocks are hashed once, when the session is opened.
+    /// The HMAC key, whose blocks are hashed once, when the session is opened.
     pub hash: Option<KeyedHash>,
     pub count: u32,
 }
 
-/// The hashed blocks of the HMAC key, in mode Auth.
-pub fn hash_of(key: &Key, config: &Config) -> Option<KeyedHash>
-    ensures { IsHashOf result key.now.mode config.now }
+/// The hashed blocks of the HMAC key, where there is one.
+pub fn hash_of(config: &Config) -> Option<KeyedHash>
+    ensures { result ≡ config.now.key }
 {
-    match (key.mode, &config.as_parts().key) {
-        (Mode::Auth, Some(block)) => Some(KeyedHash::of(block)),
-        _ => None,
+    match &config.as_parts().key {
+        Some(block) => Some(KeyedHash::of(block)),
+        None => None,
     }
 }

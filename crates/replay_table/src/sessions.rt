@@ -12,10 +12,10 @@ ghost use Rattle.reflect_core.specs.Judgement.{HasKey};
 ghost use Rattle.replay_table.specs.Table.{Table};
 ghost use Rattle.replay_table.specs.Stands.{Stands, IsAnswered, AreKeyed};
 
-use crate::reply::{judge_session, write_reflection};
+use crate::reply::write_reflection;
 use crate::session::{Session, hash_of};
 use refl_types::{Config, Extra, Key, Memory, Meta, Mode, Silent};
-use reflect_core::Judged;
+use reflect_core::{Judged, judge_by};
 use replay_format::{
     BAD_HMAC, DUPLICATE, FULL, MODE_CLASH, NO_KEY, NO_SESSION, OPENED, Outcome, Record, SHORT,
     write_outcome,
@@ -154,7 +154,7 @@ fn arrive(list: &mut [Session], meta: &Meta, t3: u64, octets: &[u8], out: &mut [
         return write_unsent(NO_SESSION, out);
     };
     let session = &list[place];
-    match judge_session(session, octets) {
+    match judge_by(&session.key, &session.config, &session.hash, octets) {
         Judged::Silent(Silent::Short) => write_unsent(SHORT, out),
         Judged::Silent(Silent::BadHmac) => write_unsent(BAD_HMAC, out),
         Judged::Reflect => {
@@ -186,7 +186,7 @@ fn open(list: &mut Vec<Session>, key: &Key, extra: &Extra, config: &Config, out:
         key: *key,
         extra: *extra,
         config: *config,
-        hash: hash_of(key, config),
+        hash: hash_of(config),
         count: 0,
     };
     keep(list, session);

@@ -5,5 +5,5 @@ mod heads;
 mod integrity;
 mod sealing;
 
-pub use integrity::{Integrity, check};
-pub use sealing::seal;
+pub use integrity::{Integrity, check, check_by};
+pub use sealing::{seal, seal_by};

@@ -18,9 +18,9 @@ returns c =
     let input = c.args.input.now in
     let old = c.args.out.now in
     let base = c.reply_base-base.result in
-    let out = c.write_auth_under.new.out in
-    let block : c.args.key.now ≡ block_octets config.key = block_is config.key c.args.key.now c.requires.key in
-    let written : out ≡ auth_reply (block_octets config.key) base ++ drop 112 old = c.write_auth_under.ensures ∙ ap (λ (b : List ℕ). auth_reply b base ++ drop 112 old) block in
+    let out = c.write_auth_by.new.out in
+    let block : c.args.block.now ≡ block_octets config.key = block_is config.key c.args.block.now c.requires.key in
+    let written : out ≡ auth_reply (block_octets config.key) base ++ drop 112 old = c.write_auth_by.ensures ∙ ap (λ (b : List ℕ). auth_reply b base ++ drop 112 old) block in
     let is : base ≡ reply_base config n c.args.meta.now c.args.t3 (auth_sender_of input) = base_is c.as_parts.result.now config n c.args.meta.now c.args.t3 c.auth_sender-sender.result (auth_sender_of input) base c.reply_base-base.ensures c.as_parts.ensures.value c.auth_sender-sender.ensures in
     let s1 : Has (auth_reply (block_octets config.key) base) old out 112 = record { parts = written; len = length_written (auth_reply (block_octets config.key) base) old out 112 written (omega arith) (omega arith) } in
     let s2 : Has (auth_octets config n base input) old c.write_tail_after.new.out (length input) = has_put (auth_reply (block_octets config.key) base) old out (tail_after 112 Auth config n base.sequence input) c.write_tail_after.new.out 112 (length input) s1 c.write_tail_after.ensures (omega arith) (omega arith) (omega arith) in

@@ -13,6 +13,6 @@ returns-in-Absent c = c.process.ensures ∙ tail_by c.args.mode c.args.config.no
 
 pub returns-in-Passed : goal.returns-in-Passed
 returns-in-Passed c =
-    c.seal.ensures
+    c.seal_by.ensures
     ∙ ap (sealed (block_octets c.args.config.now.key) c.args.answered.now c.in-Passed.at) c.process-in-Passed.ensures
     ∙ tail_by c.args.mode c.args.config.now c.args.n c.args.asked.now c.args.answered.now c.args.tail.now (Passed c.in-Passed.at) c.in-Passed.ensures.value

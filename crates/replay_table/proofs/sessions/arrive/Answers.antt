@@ -24,11 +24,12 @@ returns-in_default-clause-answered c = λ t st.
     let l = no_session t d none in
     answered t t c.args.list.now (Arrives d) (Unsent 1) c.args.out.now c.write_unsent.new.out c.write_unsent.result l.0 l.1 st c.write_unsent.ensures.octets c.write_unsent.ensures.len
 
-pub judge_session-requires : goal.judge_session-requires
-judge_session-requires c =
+pub judge_by-requires : goal.judge_by-requires
+judge_by-requires c =
     let m = c.args.meta.now in
     let p = position-Some (λ (s : Session). matches (query_of m.local m.peer c.args.octets.now) s.key) c.args.list.now c.in-Some.place c.index-list-place.result (sym c.in-Some.ensures) in
-    keyed-at c.args.list.now c.in-Some.place c.index-list-place.result c.requires.keyed p.0
+    let one = keyed-at c.args.list.now c.in-Some.place c.index-list-place.result c.requires.keyed p.0 in
+    record { hash = one.hash; key = one.key }
 
 pub write_reflection-len-requires-clause-reflected : goal.write_reflection-len-requires-clause-reflected
 write_reflection-len-requires-clause-reflected c =
@@ -36,7 +37,7 @@ write_reflection-len-requires-clause-reflected c =
     let p = position-Some (λ (s : Session). matches (query_of m.local m.peer c.args.octets.now) s.key) c.args.list.now c.in-Some.place c.index-list-place.result (sym c.in-Some.ensures) in
     record {
       keyed = keyed-at c.args.list.now c.in-Some.place c.index-list-place.result c.requires.keyed p.0;
-      judged = sym c.judge_session.ensures ∙ c.in-Reflect.is;
+      judged = sym c.judge_by.ensures ∙ c.in-Reflect.is;
       limit = c.requires.limit;
     }
 
@@ -48,7 +49,7 @@ returns-in-Silent-Short-clause-answered c = λ t st.
     let s = c.index-list-place.result in
     let p = position-Some (λ (r : Session). matches q r.key) c.args.list.now c.in-Some.place s (sym c.in-Some.ensures) in
     let at = stands-at q c.args.list.now t c.in-Some.place s st p.0 p.1 p.2 in
-    let was : judgement at.0.key.mode at.0.config d.octets ≡ Silent Short = judged-same _ at.0 d.octets at.1.stands ∙ sym c.judge_session.ensures ∙ c.in-Silent-Short.is ∙ ap (λ x. Silent x) c.in-Silent-Short.field-0-is in
+    let was : judgement at.0.key.mode at.0.config d.octets ≡ Silent Short = judged-same _ at.0 d.octets at.1.stands ∙ sym c.judge_by.ensures ∙ c.in-Silent-Short.is ∙ ap (λ x. Silent x) c.in-Silent-Short.field-0-is in
     let l = silent t d at.0 Short at.1.found was in
     let w = c.write_unsent-in-Silent-Short in
     answered t t c.args.list.now (Arrives d) (Unsent 2) c.args.out.now w.new.out w.result l.0 l.1 st w.ensures.octets w.ensures.len
@@ -61,7 +62,7 @@ returns-in-Silent-BadHmac-clause-answered c = λ t st.
     let s = c.index-list-place.result in
     let p = position-Some (λ (r : Session). matches q r.key) c.args.list.now c.in-Some.place s (sym c.in-Some.ensures) in
     let at = stands-at q c.args.list.now t c.in-Some.place s st p.0 p.1 p.2 in
-    let was : judgement at.0.key.mode at.0.config d.octets ≡ Silent BadHmac = judged-same _ at.0 d.octets at.1.stands ∙ sym c.judge_session.ensures ∙ c.in-Silent-BadHmac.is ∙ ap (λ x. Silent x) c.in-Silent-BadHmac.field-0-is in
+    let was : judgement at.0.key.mode at.0.config d.octets ≡ Silent BadHmac = judged-same _ at.0 d.octets at.1.stands ∙ sym c.judge_by.ensures ∙ c.in-Silent-BadHmac.is ∙ ap (λ x. Silent x) c.in-Silent-BadHmac.field-0-is in
     let l = silent t d at.0 BadHmac at.1.found was in
     let w = c.write_unsent-in-Silent-BadHmac in
     answered t t c.args.list.now (Arrives d) (Unsent 3) c.args.out.now w.new.out w.result l.0 l.1 st w.ensures.octets w.ensures.len
@@ -82,7 +83,7 @@ returns-in-Reflect-clause-answered c = λ t st.
     let s = c.index-list-place.result in
     let p = position-Some (λ (r : Session). matches q r.key) c.args.list.now c.in-Some.place s (sym c.in-Some.ensures) in
     let at = stands-at q c.args.list.now t c.in-Some.place s st p.0 p.1 p.2 in
-    let was : judgement at.0.key.mode at.0.config d.octets ≡ Reflect = judged-same _ at.0 d.octets at.1.stands ∙ sym c.judge_session.ensures ∙ c.in-Reflect.is in
+    let was : judgement at.0.key.mode at.0.config d.octets ≡ Reflect = judged-same _ at.0 d.octets at.1.stands ∙ sym c.judge_by.ensures ∙ c.in-Reflect.is in
     let l = reflected t d at.0 at.1.found was in
     let other = c.index-list-place-in-Reflect.result in
     let old : Session = get_or c.args.list.now c.in-Some.place other in

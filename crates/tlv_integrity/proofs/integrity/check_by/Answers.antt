@@ -1,7 +1,7 @@
 use Rattle.std.proofs.Common.{◌∙◌, ap, sym}
 use Rattle.refl_types.specs.declared.config.ConfigParts.{ConfigParts}
 use Rattle.tlv_integrity.proofs.Cases.{without_key, with_key}
-use Rattle.tlv_integrity.proofs.integrity.check.Goals as goal
+use Rattle.tlv_integrity.proofs.integrity.check_by.Goals as goal
 
 pub returns-in-None-clause-value : goal.returns-in-None-clause-value
 returns-in-None-clause-value c = without_key c.args.mode c.args.config.now c.args.sequence.now c.args.tail.now (ap (λ (p : ConfigParts). p.key) (sym c.as_parts.ensures.value) ∙ c.in-None.is)

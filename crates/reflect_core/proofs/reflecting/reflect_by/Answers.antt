@@ -6,8 +6,8 @@ use Rattle.twamp_test.specs.Reply.{test_reply}
 use Rattle.reflect_core.specs.Base.{reply_base}
 use Rattle.reflect_core.specs.Reflection.{plain_octets, auth_octets, reflection}
 use Rattle.reflect_core.proofs.Modes.{plain_is, auth_is, test_is, replied}
-use Rattle.reflect_core.proofs.reflecting.reflect.Goals as goal
-use Rattle.reflect_core.proofs.reflecting.reflect.Goals.{in-Plain, in-Twamp, in-Auth}
+use Rattle.reflect_core.proofs.reflecting.reflect_by.Goals as goal
+use Rattle.reflect_core.proofs.reflecting.reflect_by.Goals.{in-Plain, in-Twamp, in-Auth}
 
 pub returns-clause-reply : goal.returns-clause-reply
 returns-clause-reply c =
