@@ -27,7 +27,7 @@ const KEY: [u8; 64] = [
     0, 0, 0, 0,
 ];
 
-/// The same with the key, which supports every TLV.
+/// `PARTS` with the key, and with the TLV types 3 and 5.
 const KEYED: ConfigParts = ConfigParts {
     tlvs: 40,
     key: Some(KEY),

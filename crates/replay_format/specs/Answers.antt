@@ -5,7 +5,6 @@ use Rattle.refl_types.specs.declared.types.Endpoint.{Endpoint}
 use Rattle.refl_types.specs.Spelling.{endpoint_octets}
 use Rattle.replay_format.specs.declared.answer.Outcome.{Outcome}
 use Rattle.replay_format.specs.declared.answer.Outcome.TheVariants as outcomes
-use Rattle.replay_format.specs.declared.layout.TheConstants.{OPENED_TAG, REFLECTED_TAG, LEFT_TAG}
 use Rattle.replay_format.specs.Records.{framed}
 
 -- a reply that is sent from a local number to an endpoint, under the number that was drawn
@@ -25,13 +24,13 @@ abbrev pub sending_octets : Sending → List ℕ
 sending_octets s = (0 ∷ to_be_bytes w16 s.from) ++ endpoint_octets s.to ++ to_be_bytes w32 s.number ++ s.octets
 
 unfoldable pub sent_octets : Sending → List ℕ
-sent_octets s = framed REFLECTED_TAG (sending_octets s)
+sent_octets s = framed 132 (sending_octets s)
 
 unfoldable pub answer_octets : Answer → List ℕ
-answer_octets (Opened code) = framed OPENED_TAG (code ∷ [])
+answer_octets (Opened code) = framed 129 (code ∷ [])
 answer_octets (Sent s) = sent_octets s
-answer_octets (Unsent code) = framed REFLECTED_TAG (code ∷ [])
-answer_octets (Left offset) = framed LEFT_TAG (to_be_bytes w64 offset)
+answer_octets (Unsent code) = framed 132 (code ∷ [])
+answer_octets (Left offset) = framed 255 (to_be_bytes w64 offset)
 
 -- how many octets an answer has
 abbrev pub answer_len : Answer → ℕ

@@ -8,7 +8,6 @@ use Rattle.refl_types.specs.declared.types.Key.{Key}
 use Rattle.refl_types.specs.declared.types.Extra.{Extra}
 use Rattle.refl_types.specs.declared.types.Meta.{Meta}
 use Rattle.refl_types.specs.declared.config.ConfigParts.{ConfigParts}
-use Rattle.replay_format.specs.declared.layout.TheConstants.{OPEN_TAG, DATAGRAM_TAG}
 use Rattle.refl_types.specs.Spelling.{endpoint_octets, key_octets, extra_octets, config_octets, FitsEndpoint, FitsSession, FitsConfig}
 
 -- a session is opened
@@ -52,8 +51,8 @@ abbrev pub framed : ℕ → List ℕ → List ℕ
 framed tag body = tag ∷ to_be_bytes w32 (length body) ++ body
 
 abbrev pub spelling : Item → List ℕ
-spelling (Opens o) = framed OPEN_TAG (opening_octets o)
-spelling (Arrives d) = framed DATAGRAM_TAG (datagram_octets d)
+spelling (Opens o) = framed 1 (opening_octets o)
+spelling (Arrives d) = framed 4 (datagram_octets d)
 
 -- ---- what has a spelling
 

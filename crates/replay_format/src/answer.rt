@@ -3,7 +3,7 @@
 ghost use Rattle.std.specs.Prelude.{ℕ, List, ◌≡◌, ◌+◌, ◌≤◌, ◌++◌, length, take, drop};
 ghost use Rattle.replay_format.specs.Answers.{sent_octets, answer_of, answer_octets, answer_len, FitsAnswer};
 
-use crate::layout::{LEFT_TAG, OPENED_TAG, REFLECTED_TAG, REPLY_FIELDS};
+use crate::layout::{DATAGRAM_ANSWER_TAG, LEFT_TAG, OPENED_TAG, REPLY_FIELDS};
 use octet_format::put;
 use refl_types::Endpoint;
 
@@ -37,7 +37,7 @@ pub fn frame_reply(from: u16, to: &Endpoint, number: u32, len: usize, out: &mut 
     ensures octets { out.new ≡ sent_octets (record { from = from; to = to.now; number = number; octets = take len (drop 31 out.old) }) ++ drop (31 + len) out.old }
     ensures len { (octets : List ℕ) → length (sent_octets (record { from = from; to = to.now; number = number; octets = octets })) ≡ 31 + length octets }
 {
-    put(out, 0, &[REFLECTED_TAG]);
+    put(out, 0, &[DATAGRAM_ANSWER_TAG]);
     put(out, 1, &(REPLY_FIELDS + len as u32).to_be_bytes());
     put(out, 5, &[0]);
     put(out, 6, &from.to_be_bytes());
@@ -75,7 +75,7 @@ pub fn write_outcome(outcome: &Outcome, out: &mut [u8]) -> usize
             6
         }
         Outcome::Unsent(code) => {
-            put(out, 0, &[REFLECTED_TAG, 0, 0, 0, 1, *code]);
+            put(out, 0, &[DATAGRAM_ANSWER_TAG, 0, 0, 0, 1, *code]);
             6
         }
         Outcome::Left(offset) => {

@@ -9,7 +9,7 @@ ghost use Rattle.refl_types.specs.Spelling.{family};
 ghost use Rattle.replay_format.specs.Records.{Datagram, Arrives, datagram_of, ttl_octets};
 ghost use Rattle.replay_format.specs.View.{IsFront};
 
-use crate::layout::{DATAGRAM_BODY, DATAGRAM_FIELDS, DATAGRAM_TAG};
+use crate::layout::{DATAGRAM_BODY_LIMIT, DATAGRAM_FIELDS, DATAGRAM_TAG};
 use octet_format::{field2, field4, field8, field16};
 use refl_types::{Address, Endpoint, Meta};
 
@@ -46,6 +46,7 @@ fn has_zeros(octets: &[u8]) -> bool
 fn address_of(octets: &[u8], ipv4_alone: bool) -> Option<Address>
     requires { 44 ≤ length octets.now }
     ensures some { IfSome result (HasAddress octets.now) }
+    ensures asked { IfSome result (IsAsked ipv4_alone) }
     ensures none { result ≡ None → (a : addresses.Address) → HasAddress octets.now a → IsAsked ipv4_alone a → ⊥ }
 {
     match octets[7] {
@@ -70,6 +71,7 @@ fn address_of(octets: &[u8], ipv4_alone: bool) -> Option<Address>
 fn meta_of(octets: &[u8], ipv4_alone: bool, len: usize) -> Option<Meta>
     requires { 44 ≤ length octets.now }
     ensures some { IfSome result (λ m. HasHead octets.now m len) }
+    ensures asked { IfSome result (λ m. IsAsked ipv4_alone m.peer.address) }
     ensures none { result ≡ None → (m : metas.Meta) → HasHead octets.now m len → IsAsked ipv4_alone m.peer.address → ⊥ }
 {
     let address = address_of(octets, ipv4_alone)?;
@@ -90,13 +92,14 @@ fn meta_of(octets: &[u8], ipv4_alone: bool, len: usize) -> Option<Meta>
 fn datagram_from(octets: &[u8], ipv4_alone: bool) -> Option<(Meta, u64, &[u8], usize)>
     ensures front { IfSome result (λ x. IsFront octets.now (Arrives (datagram_of x.0 x.1 x.2.now)) x.3) }
     ensures measured { IfSome result (λ x. x.0.len ≡ length x.2.now) }
+    ensures asked { IfSome result (λ x. IsAsked ipv4_alone x.0.peer.address) }
     ensures none { result ≡ None → (d : Datagram) (n : ℕ) → IsFront octets.now (Arrives d) n → IsAsked ipv4_alone d.peer.address → ⊥ }
 {
     if octets.len() < HEAD || octets[0] != DATAGRAM_TAG {
         return None;
     }
     let body = u32::from_be_bytes(field4(octets, 1)) as usize;
-    if body < DATAGRAM_FIELDS || body > DATAGRAM_BODY || octets.len() - 5 < body {
+    if body < DATAGRAM_FIELDS || body > DATAGRAM_BODY_LIMIT || octets.len() - 5 < body {
         return None;
     }
     let len = body - DATAGRAM_FIELDS;
@@ -120,6 +123,7 @@ pub fn read_datagram(octets: &[u8]) -> Option<(Meta, u64, &[u8], usize)>
 pub fn read_ipv4_datagram(octets: &[u8]) -> Option<(Meta, u64, &[u8], usize)>
     ensures front { IfSome result (λ x. IsFront octets.now (Arrives (datagram_of x.0 x.1 x.2.now)) x.3) }
     ensures measured { IfSome result (λ x. x.0.len ≡ length x.2.now) }
+    ensures family { IfSome result (λ x. family x.0.peer.address ≡ 4) }
     ensures none { result ≡ None → (d : Datagram) (n : ℕ) → IsFront octets.now (Arrives d) n → family d.peer.address ≡ 4 → ⊥ }
 {
     datagram_from(octets, true)

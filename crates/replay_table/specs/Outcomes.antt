@@ -9,7 +9,6 @@ use Rattle.reflect_core.specs.declared.judging.Judged.TheVariants.{Reflect, Sile
 use Rattle.reflect_core.specs.Judgement.{judgement}
 use Rattle.refl_types.specs.Same.{same_mode}
 use Rattle.session_key.specs.Matching.{query_of}
-use Rattle.replay_format.specs.declared.code.TheConstants.{OPENED, DUPLICATE, MODE_CLASH, FULL, NO_KEY, NO_SESSION, SHORT, BAD_HMAC}
 use Rattle.replay_format.specs.Records.{Item, Opens, Arrives, Opening, Datagram}
 use Rattle.replay_format.specs.Answers.{Answer, Opened, Sent, Unsent, answer_octets}
 use Rattle.replay_table.specs.Table.{Entry, Table, is_bound, has_clash, session_for, with_entry, update, raised}
@@ -19,14 +18,16 @@ use Rattle.replay_table.specs.Reflection.{sending}
 abbrev pub session_limit : ℕ
 session_limit = 1024
 
--- the refusals of an opening, in their order, where its key is bound, clashes, or so many sessions are open
+-- The answer to an opening, where its key is bound, clashes, or so many sessions are open. The refusals in their order: 1,
+-- a session has this key; 2, a session has these ends in another mode; 5, mode Auth wants an HMAC key; 3, there is no room.
+-- 0, the session is open.
 unfoldable pub code_of : Bool → Bool → ℕ → Opening → ℕ
 code_of bound clash open_sessions o =
-    if bound then DUPLICATE
-    else (if clash then MODE_CLASH
-    else (if same_mode o.key.mode Auth && not (has o.config.key) then NO_KEY
-    else (if open_sessions == session_limit then FULL
-    else OPENED)))
+    if bound then 1
+    else (if clash then 2
+    else (if same_mode o.key.mode Auth && not (has o.config.key) then 5
+    else (if open_sessions == session_limit then 3
+    else 0)))
 
 abbrev pub opening_code : Table → Opening → ℕ
 opening_code t o = code_of (is_bound o.key t) (has_clash o.key t) (length t) o
@@ -37,17 +38,17 @@ opened_entry o = record { key = o.key; extra = o.extra; config = o.config; count
 abbrev pub session_of : Table → Datagram → Option Entry
 session_of t d = session_for (query_of d.local d.peer d.octets) t
 
--- why a datagram is not reflected
+-- why a datagram is not reflected; 1 is that no session matches it
 abbrev pub silent_code : causes.Silent → ℕ
-silent_code Short = SHORT
-silent_code BadHmac = BAD_HMAC
+silent_code Short = 2
+silent_code BadHmac = 3
 
 abbrev pub judged_answer : Judged → Entry → Datagram → Answer
 judged_answer (Silent cause) e d = Unsent (silent_code cause)
 judged_answer Reflect e d = Sent (sending e d)
 
 abbrev pub arrival_answer : Option Entry → Datagram → Answer
-arrival_answer None d = Unsent NO_SESSION
+arrival_answer None d = Unsent 1
 arrival_answer (Some e) d = judged_answer (judgement e.key.mode e.config d.octets) e d
 
 -- only a datagram that is reflected draws a number
@@ -64,7 +65,7 @@ answer t (Opens o) = Opened (opening_code t o)
 answer t (Arrives d) = arrival_answer (session_of t d) d
 
 unfoldable pub after : Table → Item → Table
-after t (Opens o) = if opening_code t o == OPENED then with_entry (opened_entry o) t else t
+after t (Opens o) = if opening_code t o == 0 then with_entry (opened_entry o) t else t
 after t (Arrives d) = after_arrival (session_of t d) t d
 
 -- ---- all records, one after the other, from the empty table

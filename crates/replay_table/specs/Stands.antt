@@ -5,7 +5,6 @@ use Rattle.reflect_core.specs.declared.judging.Judged.TheVariants.{Reflect}
 use Rattle.replay_format.specs.Records.{Item, Datagram}
 use Rattle.replay_format.specs.Answers.{Sent, answer_octets}
 use Rattle.replay_table.specs.declared.session.Session.{Session}
-use Rattle.hmac_sha256.specs.Hmac.{IsHashOf}
 use Rattle.replay_table.specs.Table.{Entry, Table}
 use Rattle.replay_table.specs.Reflection.{sending}
 use Rattle.replay_table.specs.Outcomes.{answer, after}
@@ -22,10 +21,10 @@ Stands [] (e ∷ t) = ⊥
 Stands (s ∷ ss) [] = ⊥
 Stands (s ∷ ss) (e ∷ t) = StandsFor s e × Stands ss t
 
--- a session of mode Auth has an HMAC key, and hashed blocks are those of its key
+-- a session of mode Auth has an HMAC key, and each session keeps the hashed blocks of its key
 pub record IsKeyed (s : Session) : Type 0 where
   pub key : HasKey s.key.mode s.config
-  pub hash : IsHashOf s.hash s.config.key
+  pub hash : s.hash ≡ s.config.key
 
 abbrev pub AreKeyed : List Session → Type 0
 AreKeyed [] = Unit {0}

@@ -33,7 +33,7 @@ fn has_base_hmac(block: &[u8; 64], hash: &Option<KeyedHash>, octets: &[u8]) -> b
     field16(octets, COVERED) == mac128_by(block, hash, covered, &[])
 }
 
-/// The fields of a request whose HMAC was looked at before.
+/// The fields of a request at their places. Its HMAC isn't looked at.
 #[inline]
 #[tactic(auto, unfolding(crate::specs::Request::auth_sender_of))]
 pub fn auth_sender(octets: &[u8]) -> SenderBase

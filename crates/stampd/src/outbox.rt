@@ -1,4 +1,4 @@
-//! A buffer between the answers and the sink.
+//! Answers the record at the front, and holds what is due until it is written.
 
 ghost use Rattle.std.specs.Prelude.{ℕ, ◌≡◌, ◌+◌, ◌≤◌, ◌↔◌, ◌++◌, List, [], length, take, vec_len, IsTrue, IfOk, OnOk, OnErr};
 ghost use Rattle.std.specs.Io.KnownBytes.{Appends};

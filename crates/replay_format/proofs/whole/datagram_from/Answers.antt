@@ -15,7 +15,7 @@ returns-clause-front c =
     let t3 = c.from_be_bytes-t3.result in
     let sum : body ≡ 39 + k = omega (arith, c.if-body-lt-DATAGRAM_FIELDS.false) in
     let whole : IsFront octets (Arrives (datagram_of m t3 (take k (drop 44 octets)))) (44 + k) =
-    whole_front octets m t3 k (λ i. omega (arith, c.type_inv.octets i)) (omega (arith, c.if-octets-body.false, c.if-body-lt-DATAGRAM_FIELDS.false)) (omega (arith, c.if-body-gt-DATAGRAM_BODY.false)) c.in_ok-meta.ensures.some c.if-octets-ne-DATAGRAM_TAG.false
+    whole_front octets m t3 k (λ i. omega (arith, c.type_inv.octets i)) (omega (arith, c.if-octets-body.false, c.if-body-lt-DATAGRAM_FIELDS.false)) (omega (arith, c.if-body-gt-DATAGRAM_BODY_LIMIT.false)) c.in_ok-meta.ensures.some c.if-octets-ne-DATAGRAM_TAG.false
     (ap (from_be_bytes w32) (sym c.field4.ensures) ∙ sym c.from_be_bytes-body.ensures ∙ sum)
     (c.from_be_bytes-t3.ensures ∙ ap (from_be_bytes w64) c.field8.ensures) in
     let same : 44 + k - 44 ≡ k = omega arith in

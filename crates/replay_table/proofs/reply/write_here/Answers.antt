@@ -6,6 +6,7 @@ use Rattle.replay_format.specs.Answers.{Sending, answer_octets, sent_octets}
 use Rattle.replay_format.proofs.AnswerFacts.{framed_behind}
 use Rattle.replay_table.specs.Reflection.{sent_under}
 use Rattle.replay_table.proofs.ReplyFacts.{sending_is}
+use Rattle.replay_table.proofs.TableFacts.{hashed}
 use Rattle.replay_table.proofs.reply.write_here.Goals as goal
 
 pub returns : goal.returns
@@ -32,3 +33,6 @@ returns c =
           ∙ ap (λ (x : Sending). length (sent_octets x)) (sym (sending_is s e c.args.meta.now c.args.t3 c.args.octets.now c.requires.measured stands));
       fits = omega (arith, c.reflect_by-reply.ensures.limit);
     }
+
+pub reflect_by-reply-requires-clause-hash : goal.reflect_by-reply-requires-clause-hash
+reflect_by-reply-requires-clause-hash c = hashed _ _ c.requires.reflected.keyed.hash

@@ -11,7 +11,7 @@ use Rattle.replay_table.specs.declared.session.Session.{Session}
 use Rattle.replay_table.specs.Table.{update, raised}
 use Rattle.replay_table.specs.Reflection.{sending}
 use Rattle.replay_table.specs.Stands.{StandsFor}
-use Rattle.replay_table.proofs.TableFacts.{some_session, no_place, stands-none, stands-at, raised-count, keyed-at, keyed-set, judged-same, same-at}
+use Rattle.replay_table.proofs.TableFacts.{some_session, no_place, stands-none, stands-at, raised-count, keyed-at, keyed-set, hashed, judged-same, same-at}
 use Rattle.replay_table.proofs.AnswerFacts.{answered, no_session, silent, reflected}
 use Rattle.replay_table.proofs.sessions.arrive.Goals as goal
 
@@ -29,7 +29,7 @@ judge_by-requires c =
     let m = c.args.meta.now in
     let p = position-Some (λ (s : Session). matches (query_of m.local m.peer c.args.octets.now) s.key) c.args.list.now c.in-Some.place c.index-list-place.result (sym c.in-Some.ensures) in
     let one = keyed-at c.args.list.now c.in-Some.place c.index-list-place.result c.requires.keyed p.0 in
-    record { hash = one.hash; key = one.key }
+    record { hash = hashed _ _ one.hash; key = one.key }
 
 pub write_reflection-len-requires-clause-reflected : goal.write_reflection-len-requires-clause-reflected
 write_reflection-len-requires-clause-reflected c =

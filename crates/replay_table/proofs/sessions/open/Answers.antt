@@ -5,7 +5,7 @@ use Rattle.replay_table.specs.declared.session.Session.{Session}
 use Rattle.replay_table.specs.Table.{with_entry}
 use Rattle.replay_table.specs.Outcomes.{opened_entry, opening_code}
 use Rattle.replay_table.specs.Stands.{Stands, StandsFor, AreKeyed}
-use Rattle.replay_table.proofs.TableFacts.{stands-push, keyed-push, hashed}
+use Rattle.replay_table.proofs.TableFacts.{stands-push, keyed-push}
 use Rattle.replay_table.proofs.AnswerFacts.{answered, opened, not_opened}
 use Rattle.replay_table.proofs.sessions.open.Goals as goal
 
@@ -32,4 +32,4 @@ returns-clause-answered c = λ t st.
     (w.ensures.len ∙ ap (λ (n : ℕ). length (answer_octets (Opened n))) c.if-code-ne-OPENED.false)
 
 pub returns-clause-keyed : goal.returns-clause-keyed
-returns-clause-keyed c = subst AreKeyed (sym c.keep.ensures.items) (keyed-push c.args.list.now.items (record { key = c.args.key.now; extra = c.args.extra.now; config = c.args.config.now; hash = c.hash_of.result; count = 0 }) c.requires.keyed (record { key = c.opening_code-code.ensures.keyed c.if-code-ne-OPENED.false; hash = hashed c.hash_of.result c.args.config.now.key c.hash_of.ensures }))
+returns-clause-keyed c = subst AreKeyed (sym c.keep.ensures.items) (keyed-push c.args.list.now.items (record { key = c.args.key.now; extra = c.args.extra.now; config = c.args.config.now; hash = c.hash_of.result; count = 0 }) c.requires.keyed (record { key = c.opening_code-code.ensures.keyed c.if-code-ne-OPENED.false; hash = c.hash_of.ensures }))
