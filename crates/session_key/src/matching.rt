@@ -65,7 +65,7 @@ impl Query {
     pub fn matches(&self, key: &Key) -> bool
         ensures { result ≡ matches self.now key.now }
     {
-        // Sessions of one sender differ in their SSID alone, so it is looked at first.
+        // Sessions of one sender mostly differ in their SSID, so it is looked at first.
         self.agrees(key) && self.local == key.local && self.peer == key.peer
     }
 }
