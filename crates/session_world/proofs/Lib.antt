@@ -20,7 +20,14 @@ pub mod DeskSteps
 pub mod Sessions
 pub mod Seatings
 pub mod Schedules
+pub mod LooksFit
 pub mod Configs
 pub mod RefusedSteps
 pub mod WholeRuns
 pub mod FirstWords
+pub mod Merging
+pub mod OneOrder
+pub mod LegalOrder
+pub mod OneThread
+pub mod WholeTurns
+pub mod RowsRead

@@ -4,18 +4,19 @@ use Rattle.std.proofs.lemmas.Bool.{eqb-true}
 use Rattle.slot_word.specs.Fields.{generation_in, row_in, is_open_word}
 use Rattle.session_world.specs.declared.steps.TableSize.{TableSize}
 use Rattle.session_world.specs.declared.steps.Step.{Step}
-use Rattle.session_world.specs.declared.steps.Step.TheVariants.{ReserveNew, Look, LoadKey, Draw, LoadRow, Reconfigure, Peek, Expire, Announce, Retire, ReserveUsed}
+use Rattle.session_world.specs.declared.steps.Part.{Part}
+use Rattle.session_world.specs.declared.steps.Step.TheVariants.{ReserveNew, Look, LoadKey, Draw, LoadRow, Reconfigure, Peek, Expire, Join, Announce, Retire, ReserveUsed}
 use Rattle.session_world.specs.Sizes.{IsWithinLimits}
 use Rattle.session_world.specs.Keys.{Query, IsConfigRow, is_auth, has_key}
 use Rattle.session_world.specs.Words.{slot_at, word_index, HasRead}
 use Rattle.session_world.specs.Desk.{is_open, generation_of, row_of, key_word_of, row_word_of, IsComplete, KeyedFor, is_split}
 use Rattle.session_world.specs.Worker.{announced, holds, names_row}
 use Rattle.session_world.specs.Allowed.{DeskMay, WorkerMay, IsAllowed}
-use Rattle.session_world.specs.Runs.{CoreState, state_after, own_steps, ScheduledStep, run, Runs}
-use Rattle.session_world.specs.Loads.{KeyLoadsAre, RowLoadsAre, names_open, names_open_here, HeldKey, WorkerWords, IsWordOf, DeskWords, LoadedWords}
+use Rattle.session_world.specs.Runs.{CoreState, ended_after, state_after, own_steps, ScheduledStep, run, Runs}
+use Rattle.session_world.specs.Loads.{KeyLoadsAre, RowLoadsAre, names_open, names_open_here, HeldKey, WorkerWords, PartWords, AllPartWords, IsWordOf, DeskWords, LoadedWords}
 use Rattle.session_world.proofs.BoolFacts.{true_ne_false, bool, both, either_of, and_i, or_l, or_r, no_or, number_case, some_same, is_false}
 use Rattle.session_world.proofs.KeyFacts.{key_of_same, is_key_same}
-use Rattle.session_world.proofs.DeskFacts.{DeskDid, open_used, open_inside, row_complete, complete_low, still_complete, row_kept, config_kept, is_config_same, complete_config}
+use Rattle.session_world.proofs.DeskFacts.{DeskDid, split_inside, open_used, open_inside, row_complete, complete_low, still_complete, row_kept, config_kept, is_config_same, complete_config}
 use Rattle.session_world.proofs.SlotFacts.{use_sound, open_keyed}
 use Rattle.session_world.proofs.Fits.{WordsFit}
 use Rattle.session_world.proofs.Holding.{Guard, spared, spares}
@@ -221,6 +222,29 @@ module _ (z : TableSize) (ws : List ℕ) (ds : List Step) (w : ℕ) (xs : List S
         (still_complete ds s r x.0, is_config_same (row_word_of ds r) (row_word_of (s ∷ ds) r) (λ n. sym (same n)) x.1, row_loads_same (row_word_of ds r) (row_word_of (s ∷ ds) r) r xs (λ n. sym (same n)) x.2);
   }
 
+-- what is so of the rows of a part stays, whatever the desk does
+kept_part : (z : TableSize) (ds xs : List Step) (s : Step) → DeskMay z ds s → PartWords z ds xs → PartWords z (s ∷ ds) xs
+kept_part z ds xs s may t = record {
+  named = t.named;
+  rows = λ r nz h. let x = t.rows r nz h in let same = row_kept z ds s may r x.0 in
+      (still_complete ds s r x.0, is_config_same (row_word_of ds r) (row_word_of (s ∷ ds) r) (λ n. sym (same n)) x.1, row_loads_same (row_word_of ds r) (row_word_of (s ∷ ds) r) r xs (λ n. sym (same n)) x.2);
+}
+
+kept_parts : (z : TableSize) (ds : List Step) (s : Step) → DeskMay z ds s → (ps : List Part) → AllPartWords z ds ps → AllPartWords z (s ∷ ds) ps
+kept_parts z ds s may [] t = tt
+kept_parts z ds s may (p ∷ ps) t = (kept_part z ds p.steps s may t.0, kept_parts z ds s may ps t.1)
+
+part_of_worker : (z : TableSize) (ds xs : List Step) → WorkerWords z ds xs → PartWords z ds xs
+part_of_worker z ds xs t = record { named = t.named; rows = t.rows }
+
+joined_part : (z : TableSize) (ds : List Step) (part : ℕ → List Step) (k : ℕ) → DeskDid z ds → is_split ds k ≡ true → ((w : ℕ) → is_split ds (suc w) ≡ true → WorkerWords z ds (part (suc w))) → PartWords z ds (part k)
+joined_part z ds part zero did h t = let low = (split_inside z ds did 0 h).0 in absurd (omega (arith, low))
+joined_part z ds part (suc w) did h t = part_of_worker z ds (part (suc w)) (t w h)
+
+more_parts : (z : TableSize) (ds : List Step) (part : ℕ → List Step) (ps : List Part) (s : Step) → DeskDid z ds → DeskMay z ds s → ((w : ℕ) → is_split ds (suc w) ≡ true → WorkerWords z ds (part (suc w))) → AllPartWords z ds ps → AllPartWords z (s ∷ ds) (ended_after ds part ps s)
+more_parts z ds part ps (Join k r) did may t u = (kept_part z ds (part k) (Join k r) may (joined_part z ds part k did may t), kept_parts z ds (Join k r) may ps u)
+more_parts z ds part ps s did may t u = kept_parts z ds s may ps u
+
 no_words : (z : TableSize) (ds : List Step) → WorkerWords z ds []
 no_words z ds = record { held = λ i h. absurd (true_ne_false (sym h)); named = λ r h. absurd (true_ne_false (sym h)); rows = λ r nz h. absurd (true_ne_false (sym h)) }
 
@@ -229,6 +253,7 @@ no_words z ds = record { held = λ i h. absurd (true_ne_false (sym h)); named = 
 record HaveWords (z : TableSize) (c : CoreState) : Type 0 where
   sound : IsSound z c
   desk : DeskWords c.desk
+  parts : AllPartWords z c.desk c.ended_parts
   workers : (w : ℕ) → is_split c.desk (suc w) ≡ true → WorkerWords z c.desk (c.living_part (suc w))
 
 peeked : (z : TableSize) (ws : List ℕ) (ds : List Step) (slot n : ℕ) → WordsFit z ws ds → DeskDid z ds → is_open ds slot ≡ true → n ≡ get_or ws (slot_at slot) 0 → IsWordOf ds slot n
@@ -243,20 +268,22 @@ step_words : (z : TableSize) (c : CoreState) (a : ℕ) (s : Step) → IsWithinLi
 step_words z c zero s within t may has_read = let u = t.sound in record {
   sound = step_sound z c zero s within u may has_read;
   desk = desk_reads z c.words c.desk s u.words u.desk may has_read t.desk;
+  parts = more_parts z c.desk c.living_part c.ended_parts s u.desk may t.workers t.parts;
   workers = λ w h. part_after c.desk c.living_part s w (WorkerWords z (s ∷ c.desk)) h (no_words z (s ∷ c.desk))
       (λ k. desk_words z c.words c.desk (suc w) (c.living_part (suc w)) within u.desk (u.workers w k) u.words (u.guards w k) (t.workers w k) s may);
 }
 step_words z c (suc w) s within t may has_read = let u = t.sound in record {
   sound = step_sound z c (suc w) s within u may has_read;
   desk = t.desk;
+  parts = t.parts;
   workers = λ v h. put_part c.living_part w v (s ∷ c.living_part (suc w)) (WorkerWords z c.desk)
       (λ _. own_words z c.words c.desk (suc w) (c.living_part (suc w)) within u.desk (u.workers w may.0) u.words (u.guards w may.0) (t.workers w may.0) s may.1 has_read)
       (λ _. t.workers v h);
 }
 
 run_words : (z : TableSize) (ms : List ScheduledStep) → IsWithinLimits z → Runs z ms → HaveWords z (run z ms)
-run_words z [] within r = record { sound = run_sound z [] within r; desk = tt; workers = λ w e. absurd (true_ne_false (sym e)) }
+run_words z [] within r = record { sound = run_sound z [] within r; desk = tt; parts = tt; workers = λ w e. absurd (true_ne_false (sym e)) }
 run_words z (m ∷ ms) within r = step_words z (run z ms) m.actor m.step within (run_words z ms within r.0) r.1 r.2
 
 pub loaded_words : LoadedWords
-loaded_words z ms within r = let t = run_words z ms within r in (t.desk, t.workers)
+loaded_words z ms within r = let t = run_words z ms within r in (t.desk, t.parts, t.workers)

@@ -10,5 +10,9 @@ pub mod History
 pub mod Explains
 pub mod Held
 pub mod Loads
+pub mod Looks
 pub mod Refusals
 pub mod WholeRun
+pub mod OneOrder
+pub mod OneThread
+pub mod RowsRead

@@ -3,6 +3,7 @@ use Rattle.std.specs.Prelude.{◌≡◌, ℕ, suc, ◌<◌, ◌≤◌, ◌==◌,
 use Rattle.slot_word.specs.Fields.{generation_in, row_in, is_open_word}
 use Rattle.session_world.specs.declared.steps.TableSize.{TableSize}
 use Rattle.session_world.specs.declared.steps.Step.{Step}
+use Rattle.session_world.specs.declared.steps.Part.{Part}
 use Rattle.session_world.specs.declared.steps.Step.TheVariants.{Look, LoadKey, Draw, LoadRow, Peek, Expire, Announce, Retire}
 use Rattle.session_world.specs.Sizes.{IsWithinLimits}
 use Rattle.session_world.specs.Keys.{IsKey, IsConfigRow}
@@ -54,6 +55,15 @@ pub record WorkerWords (z : TableSize) (ds xs : List Step) : Type 0 where
   pub named : (r : ℕ) → names_open xs r ≡ true → (0 < r) × (r ≤ z.rows)
   pub rows : (r : ℕ) → ¬ (r ≡ 0) → names_row xs r ≡ true → IsComplete ds r × IsConfigRow (row_word_of ds r) × RowLoadsAre (row_word_of ds r) r xs
 
+-- The same of the rows of a part that a join has ended
+pub record PartWords (z : TableSize) (ds xs : List Step) : Type 0 where
+  pub named : (r : ℕ) → names_open xs r ≡ true → (0 < r) × (r ≤ z.rows)
+  pub rows : (r : ℕ) → ¬ (r ≡ 0) → names_row xs r ≡ true → IsComplete ds r × IsConfigRow (row_word_of ds r) × RowLoadsAre (row_word_of ds r) r xs
+
+abbrev pub AllPartWords : TableSize → List Step → List Part → Type 0
+AllPartWords z ds [] = Unit {0}
+AllPartWords z ds (p ∷ ps) = PartWords z ds p.steps × AllPartWords z ds ps
+
 -- the word is open, and has the generation and the row that the desk last gave the slot
 abbrev pub IsWordOf : List Step → ℕ → ℕ → Type 0
 IsWordOf ds i n = (is_open_word n ≡ true) × (generation_in n ≡ generation_of ds i) × (row_in n ≡ row_of ds i)
@@ -68,4 +78,5 @@ DeskWords (_ ∷ ds) = DeskWords ds
 abbrev pub LoadedWords : Type 0
 LoadedWords = (z : TableSize) (ms : List ScheduledStep) → IsWithinLimits z → Runs z ms
     → DeskWords (run z ms).desk
+    × AllPartWords z (run z ms).desk (run z ms).ended_parts
     × ((w : ℕ) → is_split (run z ms).desk (suc w) ≡ true → WorkerWords z (run z ms).desk ((run z ms).living_part (suc w)))

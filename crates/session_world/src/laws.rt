@@ -3,6 +3,10 @@ ghost use Rattle.session_world.specs.Explains.{Explained};
 ghost use Rattle.session_world.specs.Held.{Held};
 ghost use Rattle.session_world.specs.History.{DrawsCount, OneMatch};
 ghost use Rattle.session_world.specs.Loads.{LoadedWords};
+ghost use Rattle.session_world.specs.OneOrder.{IsTheOrder, OneOrder};
+ghost use Rattle.session_world.specs.OneThread.{Begins, CallsTell, OneBound, TurnsTell, WholeTurn};
+ghost use Rattle.session_world.specs.Looks.{WorkerLooks};
+ghost use Rattle.session_world.specs.RowsRead.{AnswersName, RowsTell};
 ghost use Rattle.session_world.specs.WholeRun.{WholeRun};
 
 /// Each schedule that runs has a history that explains it: one that is legal in the one-thread table, in which each
@@ -39,4 +43,58 @@ pub fn law_words()
 /// opened, and the worker that it saw the session and drew 0.
 pub fn law_whole_run()
     ensures { WholeRun }
+{}
+
+/// Where one worker is split off and joined around each of its turns, each history that explains the schedule is one
+/// order of all answers: the desk's at their steps, and those of each part at its join.
+pub fn law_the_order()
+    ensures { IsTheOrder }
+{}
+
+/// Where one worker is split off and joined around each of its turns, the order of all answers is that of a legal history
+/// of the one-thread table, each answer with the configuration that its row named when it was given.
+pub fn law_one_order()
+    ensures { OneOrder }
+{}
+
+/// What one thread is told, that plays the desk and, in turns, its only worker. At first nothing is bound.
+pub fn law_begins()
+    ensures { Begins }
+{}
+
+/// Between turns the order of all answers is legal, and no query matches two bound keys.
+pub fn law_one_bound()
+    ensures { OneBound }
+{}
+
+/// A call of the desk between turns leaves the table as its answer says.
+pub fn law_calls_tell()
+    ensures { CallsTell }
+{}
+
+/// A turn's answers are those of the table as it stood before the turn: a miss is exact, a sight is of the one session
+/// that matches, a draw has its count, and no draw is late.
+pub fn law_turns_tell()
+    ensures { TurnsTell }
+{}
+
+/// A whole turn, from the first row word to the join, is one that runs: its order is the opening, the sight and the draw.
+pub fn law_whole_turn()
+    ensures { WholeTurn }
+{}
+
+/// A worker's last look is at a slot of the table, and where it belongs to a walk, its number says how far from the
+/// walk's start it is. Each open word that a worker looked at is that of a slot that was used.
+pub fn law_looks()
+    ensures { WorkerLooks }
+{}
+
+/// Each row that a worker's answers name was named by an open word.
+pub fn law_answers_name()
+    ensures { AnswersName }
+{}
+
+/// What a turn read of a row that its answers name is the configuration for which the row stands.
+pub fn law_rows_tell()
+    ensures { RowsTell }
 {}

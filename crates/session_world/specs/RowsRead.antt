@@ -1,0 +1,33 @@
+-- The rows that a turn's answers name, and the configuration that the worker reads there (this project's own).
+use Rattle.std.specs.Prelude.{◌≡◌, ◌⊎◌, ℕ, ◌<◌, true, List, [], ◌∷◌}
+use Rattle.session_world.specs.declared.steps.TableSize.{TableSize}
+use Rattle.session_world.specs.declared.steps.Step.{Step}
+use Rattle.session_world.specs.declared.steps.Part.{Part}
+use Rattle.session_world.specs.declared.steps.Step.TheVariants.{LoadRow}
+use Rattle.session_world.specs.Keys.{config_of}
+use Rattle.session_world.specs.Desk.{config_at}
+use Rattle.session_world.specs.Answers.{Answer, seen, drew, worker_answers}
+use Rattle.session_world.specs.Loads.{names_open}
+use Rattle.session_world.specs.OneThread.{HasSchedule, IsBetween, after_turn, turn_part}
+
+-- one of the answers names the row
+abbrev pub AnswersRow : ℕ → List (Answer ℕ) → Type 0
+AnswersRow r [] = ⊥
+AnswersRow r (seen q k x s ∷ xs) = (r ≡ s) ⊎ AnswersRow r xs
+AnswersRow r (drew k n s ∷ xs) = (r ≡ s) ⊎ AnswersRow r xs
+AnswersRow r (_ ∷ xs) = AnswersRow r xs
+
+-- each row that an answer names was named by an open word
+abbrev pub AnswersName : Type 0
+AnswersName = (slots : ℕ) (xs : List Step) (r : ℕ) → AnswersRow r (worker_answers slots xs) → names_open xs r ≡ true
+
+-- one of the steps loaded word k of the row r, and read n
+abbrev pub HasLoaded : ℕ → ℕ → ℕ → List Step → Type 0
+HasLoaded r k n [] = ⊥
+HasLoaded r k n (LoadRow row index read ∷ xs) = ((r ≡ row) × (k ≡ index) × (n ≡ read)) ⊎ HasLoaded r k n xs
+HasLoaded r k n (_ ∷ xs) = HasLoaded r k n xs
+
+-- the twelve words that a turn read of a row that its answers name are those of the configuration for which the row stands
+abbrev pub RowsTell : Type 0
+RowsTell = (z : TableSize) (ds : List Step) (ps : List Part) (w n m : ℕ) (xs : List Step) → IsBetween z ds ps → HasSchedule z (after_turn ds w n m) (turn_part ds w n xs ∷ ps)
+    → (r : ℕ) (word : ℕ → ℕ) → AnswersRow r (worker_answers z.slots xs) → ((k : ℕ) → 0 < k → k < 13 → HasLoaded r k (word k) xs) → config_at ds r ≡ config_of word
