@@ -7,7 +7,8 @@ use Rattle.session_world.specs.declared.steps.Part.{Part}
 use Rattle.session_world.specs.Sizes.{IsWithinLimits}
 use Rattle.session_world.specs.Desk.{is_split}
 use Rattle.session_world.specs.Allowed.{WorkerMay, DeskMay}
-use Rattle.session_world.specs.Runs.{ScheduledStep, run, Runs, ended_part}
+use Rattle.session_world.specs.Runs.{ended_part}
+pub use Rattle.session_world.specs.Runs.{IsDeskOfOneSchedule, IsWorkerOfOneSchedule}
 use Rattle.session_rule.specs.Splitting.{IsLeastFree}
 use Rattle.session_rule.specs.declared.seats.Table.{Table}
 use Rattle.session_rule.specs.declared.seats.Seat.{Seat}
@@ -37,14 +38,6 @@ worker_number s = s.number
 
 abbrev pub worker_steps : WorkerSeat → List Step
 worker_steps s = s.seat.me.0.steps
-
--- one schedule that runs has this as the last part of the worker's list, and the worker is split off
-abbrev pub IsWorkerOfOneSchedule : TableSize → ℕ → List Step → Type 0
-IsWorkerOfOneSchedule z w xs = (schedule : List ScheduledStep) × Runs z schedule × (is_split (run z schedule).desk w ≡ true) × ((run z schedule).living_part w ≡ xs)
-
--- one schedule that runs has these as the desk's list and the parts that have ended
-abbrev pub IsDeskOfOneSchedule : TableSize → List Step → List Part → Type 0
-IsDeskOfOneSchedule z xs ps = (schedule : List ScheduledStep) × Runs z schedule × ((run z schedule).desk ≡ xs) × ((run z schedule).ended_parts ≡ ps)
 
 -- whatever it reads, the worker's step is allowed
 abbrev pub WorkerMayMake : TableSize → WorkerSeat → (ℕ → Step) → Type 0

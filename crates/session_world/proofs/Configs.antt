@@ -7,12 +7,12 @@ use Rattle.session_world.specs.declared.steps.Step.TheVariants.{Start, Reconfigu
 use Rattle.session_world.specs.Keys.{Key, ConfigParts, is_auth, has_key}
 use Rattle.session_world.specs.Desk.{row_of, key_of_slot, config_at, IsComplete}
 use Rattle.session_world.specs.Answers.{Answer, opened, configured, counted, closed, expired, seen, drew, missed, late, with_configs, expire_gives, desk_answers}
-use Rattle.session_world.specs.Allowed.{DeskMay}
+use Rattle.session_world.specs.Allowed.{DeskDid, DeskMay}
 use Rattle.session_world.specs.Runs.{run}
 use Rattle.session_world.specs.History.{Session, SessionMap, Event, reconfigured, drawn, entry_after, map_after, IsLegalAt, IsBy, IsLegal}
 use Rattle.session_world.specs.Explains.{spans_of, with_wrapped_counts, answers_in, desk_count, desk_events_before, IsInSpans, opens, last_of, opened_since, KeepsSession, NoOpenBetween, Explained}
 use Rattle.session_world.proofs.BoolFacts.{some_none, number_case}
-use Rattle.session_world.proofs.DeskFacts.{DeskDid, reserved_used, row_complete, still_complete, config_kept}
+use Rattle.session_world.proofs.DeskFacts.{reserved_used, row_complete, still_complete, config_kept}
 use Rattle.session_world.proofs.Sound.{run_sound}
 use Rattle.session_world.proofs.Histories.{any_row, RowMap}
 use Rattle.session_world.proofs.Schedules.{run_tied}

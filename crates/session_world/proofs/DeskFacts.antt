@@ -1,5 +1,5 @@
 -- What the desk's own list of allowed steps says by itself.
-use Rattle.std.proofs.Common.{◌≡◌, ◌≢◌, ⊎_elim, ℕ, suc, ◌*◌, ◌<◌, ◌≤◌, ◌==◌, true, false, ◌&&◌, not, if◌then◌else◌, List, [], ◌∷◌, sym, refl, ap, ◌∙◌, subst, arith, eq-eqb, ne_eqb}
+use Rattle.std.proofs.Common.{◌≡◌, ◌≢◌, ⊎_elim, ℕ, zero, suc, ◌*◌, ◌<◌, ◌≤◌, ◌==◌, true, false, ◌&&◌, not, if◌then◌else◌, List, [], ◌∷◌, sym, refl, ap, ◌∙◌, subst, arith, eq-eqb, ne_eqb}
 use Rattle.std.proofs.lemmas.Bool.{eqb-true}
 use Rattle.slot_word.specs.declared.TheConstants.{ROW_LIMIT, GENERATION_LIMIT}
 use Rattle.config_rows.specs.Words.{config_of_words, AreConfigWords}
@@ -9,13 +9,19 @@ use Rattle.session_world.specs.declared.steps.Step.TheVariants.{WriteRow, WriteK
 use Rattle.session_world.specs.Sizes.{IsWithinLimits}
 use Rattle.session_world.specs.Keys.{put, row_list, config_of, IsConfigRow}
 use Rattle.session_world.specs.Desk.{is_open, generation_of, row_of, is_reserved, rows_written, row_word_of, config_at, IsComplete, is_split}
-use Rattle.session_world.specs.Allowed.{DeskMay}
+use Rattle.session_world.specs.Allowed.{DeskMay, DeskDid, IsAllowed}
+use Rattle.session_world.specs.Runs.{CoreState, state_after, own_steps, ScheduledStep, run, Runs}
 use Rattle.session_world.proofs.BoolFacts.{true_ne_false, both, either_of, not_true, number_case, is_false}
 
--- each step of the list was allowed
-abbrev pub DeskDid : TableSize → List Step → Type 0
-DeskDid z [] = Unit {0}
-DeskDid z (s ∷ ds) = DeskDid z ds × DeskMay z ds s
+-- ---- in a schedule that runs
+
+did_after : (z : TableSize) (c : CoreState) (a : ℕ) (s : Step) → IsAllowed z a c.desk (own_steps c a) s → DeskDid z c.desk → DeskDid z (state_after z c a s).desk
+did_after z c zero s may did = (did, may)
+did_after z c (suc w) s may did = did
+
+pub run_did : (z : TableSize) (ms : List ScheduledStep) → Runs z ms → DeskDid z (run z ms).desk
+run_did z [] r = tt
+run_did z (m ∷ ms) r = did_after z (run z ms) m.actor m.step r.1 (run_did z ms r.0)
 
 -- ---- generations
 

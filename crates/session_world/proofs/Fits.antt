@@ -12,9 +12,9 @@ use Rattle.session_world.specs.declared.steps.Step.TheVariants.{WriteRow, WriteK
 use Rattle.session_world.specs.Sizes.{IsWithinLimits}
 use Rattle.session_world.specs.Words.{slot_at, key_at, row_at, announced_at, count_of_words, word_index, word_after, HasRead, words_after}
 use Rattle.session_world.specs.Desk.{is_open, generation_of, row_of, key_word_of, is_reserved, row_word_of}
-use Rattle.session_world.specs.Allowed.{DeskMay}
+use Rattle.session_world.specs.Allowed.{DeskDid, DeskMay}
 use Rattle.session_world.proofs.BoolFacts.{true_ne_false, bool, both, or_l, number_case}
-use Rattle.session_world.proofs.DeskFacts.{DeskDid, reserved_closed, open_inside, row_fits}
+use Rattle.session_world.proofs.DeskFacts.{reserved_closed, open_inside, row_fits}
 
 -- the word n is that of a slot that is open or not, with its generation and row. Where it is reserved its sequence number is 0
 pub record SlotWord (n : ℕ) (o : Bool) (g r : ℕ) (res : Bool) : Type 0 where

@@ -9,9 +9,9 @@ use Rattle.session_world.specs.declared.steps.Step.TheVariants.{WriteRow, WriteK
 use Rattle.session_world.specs.Words.{slot_at, key_at, row_at, announced_at, word_index, word_after, HasRead, words_after}
 use Rattle.session_world.specs.Desk.{is_open, generation_of, key_word_of, is_reserved, scanned_since, MayReuse}
 use Rattle.session_world.specs.Worker.{announced, holds}
-use Rattle.session_world.specs.Allowed.{DeskMay, WorkerMay}
+use Rattle.session_world.specs.Allowed.{DeskDid, DeskMay, WorkerMay}
 use Rattle.session_world.proofs.BoolFacts.{true_ne_false, bool, both, either_of, no_or, no_and, number_case, some_none, some_same, is_false}
-use Rattle.session_world.proofs.DeskFacts.{DeskDid, still_used, open_used, open_inside, reserved_closed}
+use Rattle.session_world.proofs.DeskFacts.{still_used, open_used, open_inside, reserved_closed}
 use Rattle.session_world.proofs.Fits.{WordsFit}
 
 -- what is so of a slot while the worker w holds it

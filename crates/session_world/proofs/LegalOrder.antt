@@ -10,14 +10,14 @@ use Rattle.session_world.specs.Sizes.{IsWithinLimits}
 use Rattle.session_world.specs.Keys.{Key, key_of, ConfigParts, has_key}
 use Rattle.session_world.specs.Desk.{row_of, config_at, IsComplete, is_split}
 use Rattle.session_world.specs.Worker.{LastLook, key_matches, last_look, after_look, with_key_word}
-use Rattle.session_world.specs.Allowed.{DeskMay, IsAllowed}
+use Rattle.session_world.specs.Allowed.{DeskDid, DeskMay, IsAllowed}
 use Rattle.session_world.specs.Answers.{Answer, opened, configured, counted, closed, expired, seen, drew, missed, late, with_configs, expire_gives, desk_gives, is_miss, look_gives, words_give, completes_key, draw_answer, step_gives, worker_answers}
 use Rattle.session_world.specs.Runs.{state_after, own_steps, run, ScheduledStep, Runs}
 use Rattle.session_world.specs.History.{Session, SessionMap, Event, reconfigured, entry_after, map_after, IsLegalAt, IsBy, IsLegal}
 use Rattle.session_world.specs.Explains.{with_wrapped_counts}
 use Rattle.session_world.specs.OneOrder.{InTurns, events_by, in_order, one_order, IsLegalModulo, AreLegal, with_wrapped_events, OneOrder}
 use Rattle.session_world.specs.OneThread.{SetsSame}
-use Rattle.session_world.proofs.DeskFacts.{DeskDid, reserved_used, row_complete, still_complete, config_kept}
+use Rattle.session_world.proofs.DeskFacts.{reserved_used, row_complete, still_complete, config_kept}
 use Rattle.session_world.proofs.Sound.{run_sound}
 use Rattle.session_world.proofs.LegalHistories.{one_match}
 use Rattle.session_world.proofs.Configs.{explained}

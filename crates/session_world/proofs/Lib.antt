@@ -21,6 +21,7 @@ pub mod Sessions
 pub mod Seatings
 pub mod Schedules
 pub mod LooksFit
+pub mod Rows
 pub mod Configs
 pub mod RefusedSteps
 pub mod WholeRuns

@@ -7,11 +7,11 @@ use Rattle.session_world.specs.declared.steps.Step.TheVariants.{Look}
 use Rattle.session_world.specs.Sizes.{IsWithinLimits}
 use Rattle.session_world.specs.Words.{word_index, HasRead}
 use Rattle.session_world.specs.Desk.{is_split}
-use Rattle.session_world.specs.Allowed.{WorkerMay, IsAllowed}
+use Rattle.session_world.specs.Allowed.{DeskDid, WorkerMay, IsAllowed}
 use Rattle.session_world.specs.Runs.{CoreState, state_after, own_steps, ScheduledStep, run, Runs}
 use Rattle.session_world.specs.Looks.{OpenAreUsed, WorkerLooks}
 use Rattle.session_world.proofs.BoolFacts.{true_ne_false}
-use Rattle.session_world.proofs.DeskFacts.{DeskDid, open_used}
+use Rattle.session_world.proofs.DeskFacts.{open_used}
 use Rattle.session_world.proofs.Fits.{WordsFit}
 use Rattle.session_world.proofs.Sound.{IsSound, part_after, put_part, run_sound}
 use Rattle.session_world.proofs.Schedules.{run_tied}

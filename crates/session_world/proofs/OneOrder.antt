@@ -8,14 +8,14 @@ use Rattle.session_world.specs.declared.steps.Step.TheVariants.{Start, Split, Re
 use Rattle.session_world.specs.Sizes.{IsWithinLimits}
 use Rattle.session_world.specs.Keys.{ConfigParts}
 use Rattle.session_world.specs.Desk.{config_at, is_split}
-use Rattle.session_world.specs.Allowed.{DeskMay, IsAllowed}
+use Rattle.session_world.specs.Allowed.{DeskDid, DeskMay, IsAllowed}
 use Rattle.session_world.specs.Answers.{Answer, with_configs, desk_gives, desk_answers, answers_at_split, worker_answers}
 use Rattle.session_world.specs.Runs.{CoreState, ended_after, state_after, own_steps, ScheduledStep, run, Runs}
 use Rattle.session_world.specs.History.{Event}
 use Rattle.session_world.specs.Explains.{ended_span, ended_spans, spans_of, answers_of_spans, answers_in, desk_count, desk_events_before, AllWithin, IsInSpans}
 use Rattle.session_world.specs.OneOrder.{InTurns, in_order, IsTheOrder}
 use Rattle.session_world.proofs.BoolFacts.{true_ne_false, both, is_false}
-use Rattle.session_world.proofs.DeskFacts.{DeskDid, split_inside}
+use Rattle.session_world.proofs.DeskFacts.{split_inside}
 use Rattle.session_world.proofs.Sound.{run_sound}
 use Rattle.session_world.proofs.Merging.{answers_of, AllTwo, before_length, one_merge, own_front, other_front, two_front, desk_front, worker_front, desk_before, worker_before, only_two}
 

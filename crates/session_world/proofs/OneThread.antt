@@ -11,8 +11,8 @@ use Rattle.session_world.specs.Answers.{Answer, seen, drew, missed, late, with_c
 use Rattle.session_world.specs.History.{Session, Event, map_after}
 use Rattle.session_world.specs.OneOrder.{InTurns, events_by, one_order, AreLegal, IsLegalOrder}
 use Rattle.session_world.specs.OneThread.{IsBetween, Begins, OneBound, NoTurns, SetsSame, CallsTell, HasTurned, after_turn, turn_part, TurnsTell}
+use Rattle.session_world.specs.Allowed.{DeskDid}
 use Rattle.session_world.proofs.BoolFacts.{true_ne_false, some_same}
-use Rattle.session_world.proofs.DeskFacts.{DeskDid}
 use Rattle.session_world.proofs.Sound.{run_sound}
 use Rattle.session_world.proofs.LegalOrder.{AllSame, Agrees, entry_same, agrees_before, desk_all, one_legal_order}
 

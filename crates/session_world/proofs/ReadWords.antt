@@ -11,12 +11,12 @@ use Rattle.session_world.specs.Keys.{Query, IsConfigRow, is_auth, has_key}
 use Rattle.session_world.specs.Words.{slot_at, word_index, HasRead}
 use Rattle.session_world.specs.Desk.{is_open, generation_of, row_of, key_word_of, row_word_of, IsComplete, KeyedFor, is_split}
 use Rattle.session_world.specs.Worker.{announced, holds, names_row}
-use Rattle.session_world.specs.Allowed.{DeskMay, WorkerMay, IsAllowed}
+use Rattle.session_world.specs.Allowed.{DeskDid, DeskMay, WorkerMay, IsAllowed}
 use Rattle.session_world.specs.Runs.{CoreState, ended_after, state_after, own_steps, ScheduledStep, run, Runs}
 use Rattle.session_world.specs.Loads.{KeyLoadsAre, RowLoadsAre, names_open, names_open_here, HeldKey, WorkerWords, PartWords, AllPartWords, IsWordOf, DeskWords, LoadedWords}
 use Rattle.session_world.proofs.BoolFacts.{true_ne_false, bool, both, either_of, and_i, or_l, or_r, no_or, number_case, some_same, is_false}
 use Rattle.session_world.proofs.KeyFacts.{key_of_same, is_key_same}
-use Rattle.session_world.proofs.DeskFacts.{DeskDid, split_inside, open_used, open_inside, row_complete, complete_low, still_complete, row_kept, config_kept, is_config_same, complete_config}
+use Rattle.session_world.proofs.DeskFacts.{split_inside, open_used, open_inside, row_complete, complete_low, still_complete, row_kept, config_kept, is_config_same, complete_config}
 use Rattle.session_world.proofs.SlotFacts.{use_sound, open_keyed}
 use Rattle.session_world.proofs.Fits.{WordsFit}
 use Rattle.session_world.proofs.Holding.{Guard, spared, spares}
@@ -286,4 +286,4 @@ run_words z [] within r = record { sound = run_sound z [] within r; desk = tt; p
 run_words z (m ∷ ms) within r = step_words z (run z ms) m.actor m.step within (run_words z ms within r.0) r.1 r.2
 
 pub loaded_words : LoadedWords
-loaded_words z ms within r = let t = run_words z ms within r in (t.desk, t.parts, t.workers)
+loaded_words z ms within r = let t = run_words z ms within r in record { desk = t.desk; parts = t.parts; workers = t.workers }

@@ -155,7 +155,7 @@ twelve f g e =
 pub rows_tell : RowsTell
 rows_tell z ds ps w n m xs between schedule r word h loads =
     let now : List Step = after_turn ds w n m in
-    let words : AllPartWords z now (turn_part ds w n xs ∷ ps) = subst (λ (x : List Step × List Part). AllPartWords z x.0 x.1) (λ i. (schedule.2 i, schedule.3 i)) (loaded_words z schedule.0 between.within schedule.1).1 in
+    let words : AllPartWords z now (turn_part ds w n xs ∷ ps) = subst (λ (x : List Step × List Part). AllPartWords z x.0 x.1) (λ i. (schedule.2 i, schedule.3 i)) (loaded_words z schedule.0 between.within schedule.1).parts in
     let named = answers_name z.slots xs r h in
     let low = (words.0.named r named).0 in
     let row = words.0.rows r (λ e. omega (arith, low, e)) (open_row xs r named) in

@@ -7,10 +7,10 @@ use Rattle.session_world.specs.declared.steps.Step.{Step}
 use Rattle.session_world.specs.declared.steps.Step.TheVariants.{WriteKey, ReserveNew, Start, Reconfigure, Close, Expire, ReserveUsed}
 use Rattle.session_world.specs.Keys.{Key, IsKey, is_auth, has_key}
 use Rattle.session_world.specs.Desk.{is_open, generation_of, row_of, key_word_of, key_of_slot, is_reserved, IsComplete, KeyedFor, MayReuse, HasPath, start_of_key}
-use Rattle.session_world.specs.Allowed.{MayReserve, DeskMay}
+use Rattle.session_world.specs.Allowed.{DeskDid, MayReserve, DeskMay}
 use Rattle.session_world.proofs.BoolFacts.{true_ne_false, both, either_of, not_equal, number_case}
 use Rattle.session_world.proofs.KeyFacts.{key_of_same, is_key_same, excludes_turn}
-use Rattle.session_world.proofs.DeskFacts.{DeskDid, still_used, open_used, reserved_used, row_complete, config_kept}
+use Rattle.session_world.proofs.DeskFacts.{still_used, open_used, reserved_used, row_complete, config_kept}
 
 abbrev pub InUse : List Step → ℕ → Type 0
 InUse ds i = (is_reserved ds i ≡ true) ⊎ (is_open ds i ≡ true)

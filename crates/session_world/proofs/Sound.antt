@@ -10,11 +10,11 @@ use Rattle.session_world.specs.Keys.{put}
 use Rattle.session_world.specs.Words.{slot_at, key_at, row_at, fresh_slots, first_words, word_index, HasRead, words_after}
 use Rattle.session_world.specs.Desk.{generation_of, key_word_of, is_split}
 use Rattle.session_world.specs.Worker.{holds}
-use Rattle.session_world.specs.Allowed.{DeskMay, WorkerMay, IsAllowed}
+use Rattle.session_world.specs.Allowed.{DeskDid, DeskMay, WorkerMay, IsAllowed}
 use Rattle.session_world.specs.Runs.{CoreState, parts_after, state_after, first_state, own_steps, ScheduledStep, run, Runs}
 use Rattle.session_world.specs.Held.{Held}
 use Rattle.session_world.proofs.BoolFacts.{true_ne_false, both, number_case, put_same, put_other}
-use Rattle.session_world.proofs.DeskFacts.{DeskDid, split_inside}
+use Rattle.session_world.proofs.DeskFacts.{split_inside}
 use Rattle.session_world.proofs.Fits.{SlotFits, WordsFit, desk_fits, load_fits, announce_fits, draw_fits}
 use Rattle.session_world.proofs.Holding.{Guard, spares, spared, desk_guard, new_guard, own_guard, other_guard}
 

@@ -1,5 +1,5 @@
 -- When a step is allowed, by its actor's own list (this project's own).
-use Rattle.std.specs.Prelude.{◌≡◌, ◌⊎◌, ℕ, zero, suc, ◌+◌, ◌-◌, ◌*◌, ◌<◌, ◌≤◌, true, false, List, Option, Some, None}
+use Rattle.std.specs.Prelude.{◌≡◌, ◌⊎◌, ℕ, zero, suc, ◌+◌, ◌-◌, ◌*◌, ◌<◌, ◌≤◌, true, false, List, [], ◌∷◌, Option, Some, None}
 use Rattle.slot_word.specs.Fields.{is_open_word}
 use Rattle.session_key.specs.Matching.{excludes}
 use Rattle.session_world.specs.declared.steps.TableSize.{TableSize}
@@ -57,6 +57,11 @@ DeskMay z ds (Join worker read) = is_split ds worker ≡ true
 -- always
 DeskMay z ds (Scan worker read) = (0 < worker) × (worker ≤ z.workers)
 DeskMay z ds _ = ⊥
+
+-- each step of the desk's list was allowed
+abbrev pub DeskDid : TableSize → List Step → Type 0
+DeskDid z [] = Unit {0}
+DeskDid z (s ∷ ds) = DeskDid z ds × DeskMay z ds s
 
 -- the worker's last answer is a sight by its last look, which is at slot i
 abbrev pub HasSeen : Option LastLook → ℕ → Type 0

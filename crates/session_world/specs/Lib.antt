@@ -10,6 +10,7 @@ pub mod History
 pub mod Explains
 pub mod Held
 pub mod Loads
+pub mod Rows
 pub mod Looks
 pub mod Refusals
 pub mod WholeRun

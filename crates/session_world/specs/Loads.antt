@@ -9,7 +9,7 @@ use Rattle.session_world.specs.Sizes.{IsWithinLimits}
 use Rattle.session_world.specs.Keys.{IsKey, IsConfigRow}
 use Rattle.session_world.specs.Desk.{generation_of, row_of, key_word_of, row_word_of, IsComplete, KeyedFor, is_split}
 use Rattle.session_world.specs.Worker.{holds, names_row}
-use Rattle.session_world.specs.Runs.{ScheduledStep, run, Runs}
+use Rattle.session_world.specs.Runs.{CoreState, ScheduledStep, run, Runs}
 
 -- since it last announced or retired, the worker's loads of key words read f
 abbrev pub KeyLoadsAre : (ℕ → ℕ) → List Step → Type 0
@@ -75,8 +75,11 @@ DeskWords (Peek slot read ∷ ds) = IsWordOf ds slot read × DeskWords ds
 DeskWords (Expire slot expected read ∷ ds) = IsWordOf ds slot read × DeskWords ds
 DeskWords (_ ∷ ds) = DeskWords ds
 
+-- What the desk read, what the parts that have ended read, and what each worker that is split off has read
+pub record HasLoadedWords (z : TableSize) (c : CoreState) : Type 0 where
+  pub desk : DeskWords c.desk
+  pub parts : AllPartWords z c.desk c.ended_parts
+  pub workers : (w : ℕ) → is_split c.desk (suc w) ≡ true → WorkerWords z c.desk (c.living_part (suc w))
+
 abbrev pub LoadedWords : Type 0
-LoadedWords = (z : TableSize) (ms : List ScheduledStep) → IsWithinLimits z → Runs z ms
-    → DeskWords (run z ms).desk
-    × AllPartWords z (run z ms).desk (run z ms).ended_parts
-    × ((w : ℕ) → is_split (run z ms).desk (suc w) ≡ true → WorkerWords z (run z ms).desk ((run z ms).living_part (suc w)))
+LoadedWords = (z : TableSize) (ms : List ScheduledStep) → IsWithinLimits z → Runs z ms → HasLoadedWords z (run z ms)

@@ -9,13 +9,9 @@ use Rattle.session_world.specs.Sizes.{IsWithinLimits}
 use Rattle.session_world.specs.Keys.{Query, Key, Extra, ConfigParts, IsKey, IsConfigRow, key_of, extra_of, config_of, is_auth, has_key}
 use Rattle.session_world.specs.Desk.{config_at, is_split}
 use Rattle.session_world.specs.Answers.{Answer, opened, configured, seen, drew, missed, late, with_configs, desk_answers, worker_answers}
-use Rattle.session_world.specs.Runs.{ScheduledStep, run, Runs, ended_part}
+use Rattle.session_world.specs.Runs.{ended_part, IsDeskOfOneSchedule}
 use Rattle.session_world.specs.History.{Session, SessionMap, entry_after, NoMatch}
 use Rattle.session_world.specs.OneOrder.{InTurns, table_of, IsLegalModulo, IsLegalOrder, one_order}
-
--- one schedule that runs has these as the desk's list and the parts that joins have ended
-abbrev pub HasSchedule : TableSize → List Step → List Part → Type 0
-HasSchedule z ds ps = (schedule : List ScheduledStep) × Runs z schedule × ((run z schedule).desk ≡ ds) × ((run z schedule).ended_parts ≡ ps)
 
 -- the only worker was split off in turns, and isn't split off now
 pub record IsBetween (z : TableSize) (ds : List Step) (ps : List Part) : Type 0 where
@@ -23,7 +19,7 @@ pub record IsBetween (z : TableSize) (ds : List Step) (ps : List Part) : Type 0 
   pub one : z.workers ≡ 1
   pub turns : InTurns ds
   pub free : is_split ds 1 ≡ false
-  pub schedule : HasSchedule z ds ps
+  pub schedule : IsDeskOfOneSchedule z ds ps
 
 -- it is so at first
 abbrev pub Begins : Type 0
@@ -65,7 +61,7 @@ pub record HasCalled (z : TableSize) (ds : List Step) (ps : List Part) (now : Li
   pub answered : (d : Answer ℕ) → desk_answers now ≡ d ∷ desk_answers ds → HasAnswered (config_at now) (table_of z.slots ds ps) (table_of z.slots now ps) d
 
 abbrev pub CallsTell : Type 0
-CallsTell = (z : TableSize) (ds : List Step) (ps : List Part) (more : List Step) → IsBetween z ds ps → NoTurns more → HasSchedule z (more ++ ds) ps → HasCalled z ds ps (more ++ ds)
+CallsTell = (z : TableSize) (ds : List Step) (ps : List Part) (more : List Step) → IsBetween z ds ps → NoTurns more → IsDeskOfOneSchedule z (more ++ ds) ps → HasCalled z ds ps (more ++ ds)
 
 -- ---- turns of the worker
 
@@ -90,7 +86,7 @@ abbrev pub turn_part : List Step → ℕ → ℕ → List Step → Part
 turn_part ds w n xs = ended_part w xs (Split w n ∷ ds)
 
 abbrev pub TurnsTell : Type 0
-TurnsTell = (z : TableSize) (ds : List Step) (ps : List Part) (w n m : ℕ) (xs : List Step) → IsBetween z ds ps → HasSchedule z (after_turn ds w n m) (turn_part ds w n xs ∷ ps)
+TurnsTell = (z : TableSize) (ds : List Step) (ps : List Part) (w n m : ℕ) (xs : List Step) → IsBetween z ds ps → IsDeskOfOneSchedule z (after_turn ds w n m) (turn_part ds w n xs ∷ ps)
     → IsBetween z (after_turn ds w n m) (turn_part ds w n xs ∷ ps)
     × HasTurned (config_at ds) (table_of z.slots ds ps) (table_of z.slots (after_turn ds w n m) (turn_part ds w n xs ∷ ps)) (worker_answers z.slots xs)
 

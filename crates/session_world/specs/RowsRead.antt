@@ -8,7 +8,8 @@ use Rattle.session_world.specs.Keys.{config_of}
 use Rattle.session_world.specs.Desk.{config_at}
 use Rattle.session_world.specs.Answers.{Answer, seen, drew, worker_answers}
 use Rattle.session_world.specs.Loads.{names_open}
-use Rattle.session_world.specs.OneThread.{HasSchedule, IsBetween, after_turn, turn_part}
+use Rattle.session_world.specs.Runs.{IsDeskOfOneSchedule}
+use Rattle.session_world.specs.OneThread.{IsBetween, after_turn, turn_part}
 
 -- one of the answers names the row
 abbrev pub AnswersRow : ℕ → List (Answer ℕ) → Type 0
@@ -29,5 +30,5 @@ HasLoaded r k n (_ ∷ xs) = HasLoaded r k n xs
 
 -- the twelve words that a turn read of a row that its answers name are those of the configuration for which the row stands
 abbrev pub RowsTell : Type 0
-RowsTell = (z : TableSize) (ds : List Step) (ps : List Part) (w n m : ℕ) (xs : List Step) → IsBetween z ds ps → HasSchedule z (after_turn ds w n m) (turn_part ds w n xs ∷ ps)
+RowsTell = (z : TableSize) (ds : List Step) (ps : List Part) (w n m : ℕ) (xs : List Step) → IsBetween z ds ps → IsDeskOfOneSchedule z (after_turn ds w n m) (turn_part ds w n xs ∷ ps)
     → (r : ℕ) (word : ℕ → ℕ) → AnswersRow r (worker_answers z.slots xs) → ((k : ℕ) → 0 < k → k < 13 → HasLoaded r k (word k) xs) → config_at ds r ≡ config_of word

@@ -1,11 +1,12 @@
 -- The state of the table and of its actors, and the schedules that run (this project's own). Every list has its latest entry first.
-use Rattle.std.specs.Prelude.{ℕ, zero, suc, List, [], ◌∷◌, length, slice_index}
+use Rattle.std.specs.Prelude.{◌≡◌, ℕ, zero, suc, true, List, [], ◌∷◌, length, slice_index}
 use Rattle.session_world.specs.declared.steps.TableSize.{TableSize}
 use Rattle.session_world.specs.declared.steps.Step.{Step}
 use Rattle.session_world.specs.declared.steps.Part.{Part}
 use Rattle.session_world.specs.declared.steps.Step.TheVariants.{Split, Join}
 use Rattle.session_world.specs.Keys.{put}
 use Rattle.session_world.specs.Words.{first_words, word_index, HasRead, words_after}
+use Rattle.session_world.specs.Desk.{is_split}
 use Rattle.session_world.specs.Answers.{desk_answers, answers_at_split}
 use Rattle.session_world.specs.Allowed.{IsAllowed}
 
@@ -68,3 +69,13 @@ Runs z (m ∷ ms) =
     Runs z ms
     × IsAllowed z m.actor (run z ms).desk (own_steps (run z ms) m.actor) m.step
     × HasRead m.step (slice_index (run z ms).words (word_index z m.actor m.step))
+
+-- ---- what an actor may know of the schedule
+
+-- one schedule that runs has these as the desk's list and the parts that joins have ended
+abbrev pub IsDeskOfOneSchedule : TableSize → List Step → List Part → Type 0
+IsDeskOfOneSchedule z ds ps = (schedule : List ScheduledStep) × Runs z schedule × ((run z schedule).desk ≡ ds) × ((run z schedule).ended_parts ≡ ps)
+
+-- one schedule that runs has this as the last part of the worker's list, and the worker is split off
+abbrev pub IsWorkerOfOneSchedule : TableSize → ℕ → List Step → Type 0
+IsWorkerOfOneSchedule z w xs = (schedule : List ScheduledStep) × Runs z schedule × (is_split (run z schedule).desk w ≡ true) × ((run z schedule).living_part w ≡ xs)

@@ -6,6 +6,7 @@ ghost use Rattle.session_world.specs.Loads.{LoadedWords};
 ghost use Rattle.session_world.specs.OneOrder.{IsTheOrder, OneOrder};
 ghost use Rattle.session_world.specs.OneThread.{Begins, CallsTell, OneBound, TurnsTell, WholeTurn};
 ghost use Rattle.session_world.specs.Looks.{WorkerLooks};
+ghost use Rattle.session_world.specs.Rows.{RowsStay, WorkersReadRows};
 ghost use Rattle.session_world.specs.RowsRead.{AnswersName, RowsTell};
 ghost use Rattle.session_world.specs.WholeRun.{WholeRun};
 
@@ -97,4 +98,14 @@ pub fn law_answers_name()
 /// What a turn read of a row that its answers name is the configuration for which the row stands.
 pub fn law_rows_tell()
     ensures { RowsTell }
+{}
+
+/// A complete row stays as it is, whatever the desk does from then on.
+pub fn law_rows_stay()
+    ensures { RowsStay }
+{}
+
+/// The rows that a split-off worker has read stand for the configurations that the desk wrote there.
+pub fn law_rows_read()
+    ensures { WorkersReadRows }
 {}
