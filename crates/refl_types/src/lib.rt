@@ -2,9 +2,11 @@
 #![tactic(auto)]
 
 mod config;
+mod laws;
 mod outcome;
 mod types;
 
 pub use config::{Clock, Config, ConfigFault, ConfigParts};
+pub use laws::law_same;
 pub use outcome::{Memory, Place, Silent, Unanswered};
 pub use types::{Address, Endpoint, Extra, Key, LocalAddr, Meta, Mode};

@@ -22,7 +22,10 @@ pub fn law_words()
     ensures again { (words : List ℕ) → AreKeyWords words → key_words (key_of_words words) (extra_of_words words) ≡ words }
 {}
 
-/// Two keys that sessions may have and that one datagram matches exclude each other.
+/// Two keys that sessions may have and that one datagram matches exclude each other; each key excludes itself; and
+/// where one key excludes another, that one excludes it.
 pub fn law_excludes()
-    ensures { (q : Query) (j k : Key) (x y : Extra) → matches q j ≡ true → matches q k ≡ true → is_sound j x ≡ true → is_sound k y ≡ true → excludes j k ≡ true }
+    ensures matched { (q : Query) (j k : Key) (x y : Extra) → matches q j ≡ true → matches q k ≡ true → is_sound j x ≡ true → is_sound k y ≡ true → excludes j k ≡ true }
+    ensures itself { (k : Key) → excludes k k ≡ true }
+    ensures turned { (j k : Key) → excludes j k ≡ true → excludes k j ≡ true }
 {}

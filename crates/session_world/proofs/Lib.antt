@@ -22,6 +22,8 @@ pub mod Seatings
 pub mod Schedules
 pub mod LooksFit
 pub mod Rows
+pub mod DeskLists
+pub mod Visits
 pub mod Configs
 pub mod RefusedSteps
 pub mod WholeRuns

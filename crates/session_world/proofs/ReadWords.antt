@@ -71,7 +71,7 @@ here_is_open (Draw slot read ∷ xs) r h = ⊎_elim
     (either_of (is_open_word read && (r == row_in read)) (names_open_here xs r) h)
 here_is_open (_ ∷ xs) r h = here_is_open xs r h
 
-open_is_named : (xs : List Step) (r : ℕ) → names_open xs r ≡ true → names_row xs r ≡ true
+pub open_is_named : (xs : List Step) (r : ℕ) → names_open xs r ≡ true → names_row xs r ≡ true
 open_is_named [] r h = h
 open_is_named (Look slot query read ∷ xs) r h = ⊎_elim
     (λ (x : (is_open_word read && (r == row_in read)) ≡ true). or_l (r == row_in read) (names_row xs r) (both (is_open_word read) (r == row_in read) x).1)

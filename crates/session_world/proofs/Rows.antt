@@ -6,16 +6,17 @@ use Rattle.session_world.specs.declared.steps.Step.TheVariants.{WriteRow}
 use Rattle.session_world.specs.Sizes.{IsWithinLimits}
 use Rattle.session_world.specs.Desk.{is_split, row_word_of, config_at, IsComplete}
 use Rattle.session_world.specs.Allowed.{DeskMay, DeskDid}
-use Rattle.session_world.specs.Loads.{WorkerWords}
+use Rattle.session_world.specs.Loads.{WorkerWords, PartWords}
 use Rattle.session_world.specs.Runs.{ScheduledStep, run, Runs}
-use Rattle.session_world.specs.Rows.{RowsStay, ReadsRows, HasReadRows, WorkersReadRows}
+use Rattle.session_world.specs.Rows.{RowsStay, ReadsRows, HasReadRows, WorkersReadRows, LoadsFixRows}
 use Rattle.session_world.proofs.DeskFacts.{run_did, split_inside, still_complete}
 use Rattle.session_world.proofs.ReadWords.{loaded_words}
+use Rattle.session_world.proofs.RowsRead.{loads_config}
 
 -- ---- complete rows stay
 
 -- a step of the desk leaves the words of a complete row as they are
-words_stay : (z : TableSize) (ds : List Step) (s : Step) (r : ℕ) → DeskMay z ds s → IsComplete ds r → row_word_of (s ∷ ds) r ≡ row_word_of ds r
+pub words_stay : (z : TableSize) (ds : List Step) (s : Step) (r : ℕ) → DeskMay z ds s → IsComplete ds r → row_word_of (s ∷ ds) r ≡ row_word_of ds r
 words_stay z ds (WriteRow row index word) r may full =
     let x : r ≢ row = λ e. (let a = may.0 in let b = may.4 in let d = full.1 in let f = may.3 in omega (arith, a, b, d, e, f)) in
     let f : Bool → ℕ → ℕ = (λ (b : Bool) (k : ℕ). if b && (k == index) then word else row_word_of ds r k) in
@@ -52,3 +53,10 @@ workers_read_rows z w xs within h =
       split = h.2;
       rows = subst (ReadsRows (config_at c.desk)) h.3 (reads_at z w h.0 within h.1 (split_inside z c.desk (run_did z h.0 h.1) w h.2).0 h.2);
     }
+
+-- the same of a part that has ended
+pub part_reads_rows : (z : TableSize) (ds xs : List Step) → PartWords z ds xs → ReadsRows (config_at ds) xs
+part_reads_rows z ds xs p r out named = let a = p.rows r out named in (row_word_of ds r, a.2, refl)
+
+pub loads_fix_rows : LoadsFixRows
+loads_fix_rows config xs r word reads out named loads = let a = reads r out named in a.2 ∙ loads_config a.0 r word xs a.1 loads

@@ -9,11 +9,11 @@ use Rattle.session_world.specs.Keys.{key_of, extra_of, config_of}
 use Rattle.session_world.specs.Desk.{row_word_of}
 use Rattle.session_world.specs.Worker.{LastLook, names_row, has_key_words, key_matches, after_look, takes_key, with_key_word, after_key, after_hold, last_look}
 use Rattle.session_world.specs.Answers.{Answer, seen, drew, missed, late, is_miss, words_give, completes_key, draw_answer, step_gives, worker_answers}
-use Rattle.session_world.specs.Loads.{RowLoadsAre, names_open, AllPartWords}
+use Rattle.session_world.specs.Loads.{RowLoadsAre, names_open, AllPartWords, HasLoaded, HasLoadedRow}
 use Rattle.session_world.specs.OneThread.{after_turn, turn_part}
-use Rattle.session_world.specs.RowsRead.{AnswersRow, AnswersName, HasLoaded, RowsTell}
+use Rattle.session_world.specs.RowsRead.{AnswersRow, AnswersName, RowsTell}
 use Rattle.session_world.proofs.BoolFacts.{both, either_of, and_i, or_l, or_r}
-use Rattle.session_world.proofs.ReadWords.{loaded_words}
+use Rattle.session_world.proofs.ReadWords.{open_is_named, loaded_words}
 
 -- ---- the last look, where it found an open word
 
@@ -127,18 +127,6 @@ answers_name slots xs r h = answers_within slots xs r h
 
 -- ---- what was read there
 
-open_row : (xs : List Step) (r : ℕ) → names_open xs r ≡ true → names_row xs r ≡ true
-open_row [] r h = h
-open_row (Look slot query read ∷ xs) r h = ⊎_elim
-    (λ x. or_l (r == row_in read) (names_row xs r) (both (is_open_word read) (r == row_in read) x).1)
-    (λ x. or_r (r == row_in read) (names_row xs r) (open_row xs r x))
-    (either_of (is_open_word read && (r == row_in read)) (names_open xs r) h)
-open_row (Draw slot read ∷ xs) r h = ⊎_elim
-    (λ x. or_l (r == row_in read) (names_row xs r) (both (is_open_word read) (r == row_in read) x).1)
-    (λ x. or_r (r == row_in read) (names_row xs r) (open_row xs r x))
-    (either_of (is_open_word read && (r == row_in read)) (names_open xs r) h)
-open_row (_ ∷ xs) r h = open_row xs r h
-
 read_is : (f : ℕ → ℕ) (r k n : ℕ) (xs : List Step) → RowLoadsAre f r xs → HasLoaded r k n xs → f k ≡ n
 read_is f r k n [] l h = absurd h
 read_is f r k n (LoadRow row index read ∷ xs) l h = ⊎_elim
@@ -152,11 +140,15 @@ twelve f g e =
     ap config_of_words (λ i. e 1 (omega arith) (omega arith) i ∷ e 2 (omega arith) (omega arith) i ∷ e 3 (omega arith) (omega arith) i ∷ e 4 (omega arith) (omega arith) i ∷ e 5 (omega arith) (omega arith) i ∷ e 6 (omega arith) (omega arith) i
     ∷ e 7 (omega arith) (omega arith) i ∷ e 8 (omega arith) (omega arith) i ∷ e 9 (omega arith) (omega arith) i ∷ e 10 (omega arith) (omega arith) i ∷ e 11 (omega arith) (omega arith) i ∷ e 12 (omega arith) (omega arith) i ∷ [])
 
+-- the words that were loaded of a row are those of its configuration
+pub loads_config : (f : ℕ → ℕ) (r : ℕ) (word : ℕ → ℕ) (xs : List Step) → RowLoadsAre f r xs → HasLoadedRow r word xs → config_of f ≡ config_of word
+loads_config f r word xs l loads = twelve f word (λ k lo hi. read_is f r k (word k) xs l (loads k lo hi))
+
 pub rows_tell : RowsTell
 rows_tell z ds ps w n m xs between schedule r word h loads =
     let now : List Step = after_turn ds w n m in
     let words : AllPartWords z now (turn_part ds w n xs ∷ ps) = subst (λ (x : List Step × List Part). AllPartWords z x.0 x.1) (λ i. (schedule.2 i, schedule.3 i)) (loaded_words z schedule.0 between.within schedule.1).parts in
     let named = answers_name z.slots xs r h in
     let low = (words.0.named r named).0 in
-    let row = words.0.rows r (λ e. omega (arith, low, e)) (open_row xs r named) in
-    twelve (row_word_of ds r) word (λ k lo hi. read_is (row_word_of ds r) r k (word k) xs row.2 (loads k lo hi))
+    let row = words.0.rows r (λ e. omega (arith, low, e)) (open_is_named xs r named) in
+    loads_config (row_word_of ds r) r word xs row.2 loads

@@ -3,7 +3,9 @@ use Rattle.std.proofs.Common.{◌≡◌, ◌≢◌, ◌⊎◌, inl, inr, ⊎_eli
 use Rattle.std.proofs.lemmas.Bool.{leb-true, leb-false}
 use Rattle.std.proofs.Math.Dec.{leb}
 use Rattle.session_world.specs.Keys.{next_slot, distance}
+use Rattle.session_world.specs.Walks.{WalksGoRound}
 use Rattle.session_world.proofs.BoolFacts.{number_case, bool}
+use Rattle.session_world.proofs.KeyFacts.{start_low, matches_start}
 
 distance_case : (slots from i : ℕ) → ((from ≤ i) × (distance slots from i ≡ i - from)) ⊎ ((i < from) × (distance slots from i ≡ i + slots - from))
 unfolding distance
@@ -62,3 +64,20 @@ distance_next slots from i f l more = let j : ℕ = next_slot slots i in ⊎_eli
     (distance_case slots from j))
     (next_case slots i))
     (distance_case slots from i)
+
+next_inside : (slots i : ℕ) → i < slots → next_slot slots i < slots
+next_inside slots i h = ⊎_elim
+    (λ (x : (suc i ≡ slots) × (next_slot slots i ≡ 0)). let e = x.1 in omega arith)
+    (λ (x : (suc i ≢ slots) × (next_slot slots i ≡ suc i)). let n = x.0 in let e = x.1 in omega arith)
+    (next_case slots i)
+
+pub walks_go_round : WalksGoRound
+walks_go_round = record {
+  start_inside = start_low;
+  start_matched = matches_start;
+  low = distance_low;
+  same = distance_same;
+  at_start = distance_start;
+  next_inside = next_inside;
+  further = distance_next;
+}

@@ -11,6 +11,9 @@ pub mod Explains
 pub mod Held
 pub mod Loads
 pub mod Rows
+pub mod DeskLists
+pub mod Walks
+pub mod Visits
 pub mod Looks
 pub mod Refusals
 pub mod WholeRun

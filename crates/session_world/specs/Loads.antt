@@ -1,5 +1,5 @@
 -- What the words are that workers and the desk read (this project's own).
-use Rattle.std.specs.Prelude.{◌≡◌, ℕ, suc, ◌<◌, ◌≤◌, ◌==◌, Bool, true, false, ◌||◌, ◌&&◌, List, [], ◌∷◌}
+use Rattle.std.specs.Prelude.{◌≡◌, ◌⊎◌, ℕ, suc, ◌<◌, ◌≤◌, ◌==◌, Bool, true, false, ◌||◌, ◌&&◌, List, [], ◌∷◌}
 use Rattle.slot_word.specs.Fields.{generation_in, row_in, is_open_word}
 use Rattle.session_world.specs.declared.steps.TableSize.{TableSize}
 use Rattle.session_world.specs.declared.steps.Step.{Step}
@@ -10,6 +10,29 @@ use Rattle.session_world.specs.Keys.{IsKey, IsConfigRow}
 use Rattle.session_world.specs.Desk.{generation_of, row_of, key_word_of, row_word_of, IsComplete, KeyedFor, is_split}
 use Rattle.session_world.specs.Worker.{holds, names_row}
 use Rattle.session_world.specs.Runs.{CoreState, ScheduledStep, run, Runs}
+
+-- ---- loads
+
+-- the loads of the four key words of a slot, which read these
+abbrev pub key_loads : ℕ → (ℕ → ℕ) → List Step → List Step
+key_loads slot word xs = LoadKey slot 4 (word 4) ∷ LoadKey slot 3 (word 3) ∷ LoadKey slot 2 (word 2) ∷ LoadKey slot 1 (word 1) ∷ xs
+
+-- the loads of the twelve words of a row
+abbrev pub row_loads : ℕ → (ℕ → ℕ) → List Step → List Step
+row_loads row word xs =
+    LoadRow row 12 (word 12) ∷ LoadRow row 11 (word 11) ∷ LoadRow row 10 (word 10) ∷ LoadRow row 9 (word 9)
+    ∷ LoadRow row 8 (word 8) ∷ LoadRow row 7 (word 7) ∷ LoadRow row 6 (word 6) ∷ LoadRow row 5 (word 5)
+    ∷ LoadRow row 4 (word 4) ∷ LoadRow row 3 (word 3) ∷ LoadRow row 2 (word 2) ∷ LoadRow row 1 (word 1) ∷ xs
+
+-- one of the steps loaded word k of the row r, and read n
+abbrev pub HasLoaded : ℕ → ℕ → ℕ → List Step → Type 0
+HasLoaded r k n [] = ⊥
+HasLoaded r k n (LoadRow row index read ∷ xs) = ((r ≡ row) × (k ≡ index) × (n ≡ read)) ⊎ HasLoaded r k n xs
+HasLoaded r k n (_ ∷ xs) = HasLoaded r k n xs
+
+-- the steps loaded all twelve words of the row, and read f
+abbrev pub HasLoadedRow : ℕ → (ℕ → ℕ) → List Step → Type 0
+HasLoadedRow r f xs = (k : ℕ) → 0 < k → k < 13 → HasLoaded r k (f k) xs
 
 -- since it last announced or retired, the worker's loads of key words read f
 abbrev pub KeyLoadsAre : (ℕ → ℕ) → List Step → Type 0
@@ -40,6 +63,8 @@ names_open_here (Retire ∷ xs) r = false
 names_open_here (Look slot query read ∷ xs) r = (is_open_word read && (r == row_in read)) || names_open_here xs r
 names_open_here (Draw slot read ∷ xs) r = (is_open_word read && (r == row_in read)) || names_open_here xs r
 names_open_here (_ ∷ xs) r = names_open_here xs r
+
+-- ---- what they read
 
 -- While the worker holds slot i: the key words that it reads are the desk's, which are those of a sound key and extra, and
 -- where that key's mode is Auth the configuration of each row that it found there in an open word has an HMAC key

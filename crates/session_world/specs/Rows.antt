@@ -7,7 +7,7 @@ use Rattle.session_world.specs.Sizes.{IsWithinLimits}
 use Rattle.session_world.specs.Keys.{ConfigParts, config_of}
 use Rattle.session_world.specs.Desk.{row_word_of, config_at, IsComplete, is_split}
 use Rattle.session_world.specs.Worker.{names_row}
-use Rattle.session_world.specs.Loads.{RowLoadsAre}
+use Rattle.session_world.specs.Loads.{RowLoadsAre, HasLoadedRow}
 use Rattle.session_world.specs.Runs.{IsDeskOfOneSchedule, IsWorkerOfOneSchedule}
 
 -- a complete row stays as it is, whatever steps the desk adds to its list
@@ -29,3 +29,7 @@ pub record HasReadRows (z : TableSize) (w : ℕ) (xs : List Step) : Type 0 where
 
 abbrev pub WorkersReadRows : Type 0
 WorkersReadRows = (z : TableSize) (w : ℕ) (xs : List Step) → IsWithinLimits z → IsWorkerOfOneSchedule z w xs → HasReadRows z w xs
+
+-- a row stands for the configuration of its twelve words where the worker has loaded them all
+abbrev pub LoadsFixRows : Type 0
+LoadsFixRows = (config : ℕ → ConfigParts) (xs : List Step) (r : ℕ) (word : ℕ → ℕ) → ReadsRows config xs → ¬ (r ≡ 0) → names_row xs r ≡ true → HasLoadedRow r word xs → config r ≡ config_of word

@@ -1,13 +1,12 @@
 -- The rows that a turn's answers name, and the configuration that the worker reads there (this project's own).
-use Rattle.std.specs.Prelude.{◌≡◌, ◌⊎◌, ℕ, ◌<◌, true, List, [], ◌∷◌}
+use Rattle.std.specs.Prelude.{◌≡◌, ◌⊎◌, ℕ, true, List, [], ◌∷◌}
 use Rattle.session_world.specs.declared.steps.TableSize.{TableSize}
 use Rattle.session_world.specs.declared.steps.Step.{Step}
 use Rattle.session_world.specs.declared.steps.Part.{Part}
-use Rattle.session_world.specs.declared.steps.Step.TheVariants.{LoadRow}
 use Rattle.session_world.specs.Keys.{config_of}
 use Rattle.session_world.specs.Desk.{config_at}
 use Rattle.session_world.specs.Answers.{Answer, seen, drew, worker_answers}
-use Rattle.session_world.specs.Loads.{names_open}
+use Rattle.session_world.specs.Loads.{names_open, HasLoadedRow}
 use Rattle.session_world.specs.Runs.{IsDeskOfOneSchedule}
 use Rattle.session_world.specs.OneThread.{IsBetween, after_turn, turn_part}
 
@@ -22,13 +21,7 @@ AnswersRow r (_ ∷ xs) = AnswersRow r xs
 abbrev pub AnswersName : Type 0
 AnswersName = (slots : ℕ) (xs : List Step) (r : ℕ) → AnswersRow r (worker_answers slots xs) → names_open xs r ≡ true
 
--- one of the steps loaded word k of the row r, and read n
-abbrev pub HasLoaded : ℕ → ℕ → ℕ → List Step → Type 0
-HasLoaded r k n [] = ⊥
-HasLoaded r k n (LoadRow row index read ∷ xs) = ((r ≡ row) × (k ≡ index) × (n ≡ read)) ⊎ HasLoaded r k n xs
-HasLoaded r k n (_ ∷ xs) = HasLoaded r k n xs
-
 -- the twelve words that a turn read of a row that its answers name are those of the configuration for which the row stands
 abbrev pub RowsTell : Type 0
 RowsTell = (z : TableSize) (ds : List Step) (ps : List Part) (w n m : ℕ) (xs : List Step) → IsBetween z ds ps → IsDeskOfOneSchedule z (after_turn ds w n m) (turn_part ds w n xs ∷ ps)
-    → (r : ℕ) (word : ℕ → ℕ) → AnswersRow r (worker_answers z.slots xs) → ((k : ℕ) → 0 < k → k < 13 → HasLoaded r k (word k) xs) → config_at ds r ≡ config_of word
+    → (r : ℕ) (word : ℕ → ℕ) → AnswersRow r (worker_answers z.slots xs) → HasLoadedRow r word xs → config_at ds r ≡ config_of word

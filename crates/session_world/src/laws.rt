@@ -6,7 +6,10 @@ ghost use Rattle.session_world.specs.Loads.{LoadedWords};
 ghost use Rattle.session_world.specs.OneOrder.{IsTheOrder, OneOrder};
 ghost use Rattle.session_world.specs.OneThread.{Begins, CallsTell, OneBound, TurnsTell, WholeTurn};
 ghost use Rattle.session_world.specs.Looks.{WorkerLooks};
-ghost use Rattle.session_world.specs.Rows.{RowsStay, WorkersReadRows};
+ghost use Rattle.session_world.specs.DeskLists.{DeskIsAllowed, SlotsAreSound, StepsKeepRows};
+ghost use Rattle.session_world.specs.Rows.{LoadsFixRows, RowsStay, WorkersReadRows};
+ghost use Rattle.session_world.specs.Visits.{VisitsTell};
+ghost use Rattle.session_world.specs.Walks.{WalksGoRound};
 ghost use Rattle.session_world.specs.RowsRead.{AnswersName, RowsTell};
 ghost use Rattle.session_world.specs.WholeRun.{WholeRun};
 
@@ -108,4 +111,36 @@ pub fn law_rows_stay()
 /// The rows that a split-off worker has read stand for the configurations that the desk wrote there.
 pub fn law_rows_read()
     ensures { WorkersReadRows }
+{}
+
+/// A row stands for the configuration of its twelve words, under whatever the worker's loads of rows stand for, where the
+/// worker has loaded them all.
+pub fn law_rows_fixed()
+    ensures { LoadsFixRows }
+{}
+
+/// Each step of the desk's list was allowed.
+pub fn law_desk_did()
+    ensures { DeskIsAllowed }
+{}
+
+/// Slots that the desk has reserved or open are slots of the table that were used, under a sound key; the rows of used
+/// slots are complete, and stand for configurations.
+pub fn law_desk_slots()
+    ensures { SlotsAreSound }
+{}
+
+/// A step of the desk leaves a complete row as it is.
+pub fn law_desk_rows()
+    ensures { StepsKeepRows }
+{}
+
+/// How far the slots are from the start of a walk.
+pub fn law_walks()
+    ensures { WalksGoRound }
+{}
+
+/// What a worker's visit to a slot leaves as its last look, and what it answers.
+pub fn law_visits()
+    ensures { VisitsTell }
 {}

@@ -1,0 +1,8 @@
+//! What callers may know of the tests of equality.
+
+ghost use Rattle.refl_types.specs.Same.{SameIsEqual};
+
+/// Octets, endpoints, modes and keys pass their test exactly where they are equal.
+pub fn law_same()
+    ensures { SameIsEqual }
+{}
