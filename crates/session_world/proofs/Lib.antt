@@ -24,6 +24,8 @@ pub mod LooksFit
 pub mod Rows
 pub mod DeskLists
 pub mod Visits
+pub mod FirstEvents
+pub mod Joined
 pub mod Configs
 pub mod RefusedSteps
 pub mod WholeRuns

@@ -19,4 +19,5 @@ pub mod Refusals
 pub mod WholeRun
 pub mod OneOrder
 pub mod OneThread
+pub mod Joined
 pub mod RowsRead

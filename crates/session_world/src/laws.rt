@@ -2,6 +2,7 @@
 ghost use Rattle.session_world.specs.Explains.{Explained};
 ghost use Rattle.session_world.specs.Held.{Held};
 ghost use Rattle.session_world.specs.History.{DrawsCount, OneMatch};
+ghost use Rattle.session_world.specs.Joined.{JoinedHistory};
 ghost use Rattle.session_world.specs.Loads.{LoadedWords};
 ghost use Rattle.session_world.specs.OneOrder.{IsTheOrder, OneOrder};
 ghost use Rattle.session_world.specs.OneThread.{Begins, CallsTell, OneBound, TurnsTell, WholeTurn};
@@ -143,4 +144,10 @@ pub fn law_walks()
 /// What a worker's visit to a slot leaves as its last look, and what it answers.
 pub fn law_visits()
     ensures { VisitsTell }
+{}
+
+/// Where the desk first opened sessions, then split workers off and has joined them all, there is one history for all: it
+/// begins with these openings, and has the desk's answers and those of each worker's list, with their rows' configurations.
+pub fn law_joined_history()
+    ensures { JoinedHistory }
 {}
