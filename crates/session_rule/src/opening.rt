@@ -1,13 +1,13 @@
 //! Opening the table.
 
-ghost use Rattle.std.specs.Prelude.{◌≡◌, ◌≤◌, [], IfOk, Err, IsTrue, ◌↔◌};
+ghost use Rattle.std.specs.Prelude.{◌≡◌, [], IfOk, Err, IsTrue, ◌↔◌};
 ghost use Rattle.session_world.specs.Sizes.{IsWithinLimits};
 ghost use Rattle.session_world.specs.Words.{first_words};
 ghost use Rattle.session_rule.specs.Splitting.{SaysWhoIsSplit};
 ghost use Rattle.session_rule.specs.Seats.{IsNewTable};
 
-use crate::seats::{Seat, Table};
-use session_world::TableSize;
+use crate::seats::{Seat, Table, WORKERS};
+use session_world::{ROW_LIMIT, SLOT_LIMIT, TableSize, WORKER_LIMIT};
 use std::alloc::{AllocError, Global};
 
 /// Why no table was opened.
@@ -21,7 +21,7 @@ pub enum OpenFault {
 
 /// The words of a table that was never used.
 fn fresh_words(alloc: Global, size: &TableSize) -> Result<Vec<u64>, AllocError>
-    requires { (size.now.slots ≤ 4096) × (size.now.rows ≤ 1024) × (size.now.workers ≤ 64) }
+    requires { IsWithinLimits size.now }
     ensures { IfOk result (λ v. v.items ≡ first_words size.now) }
 {
     let mut words = Vec::new(alloc);
@@ -41,15 +41,15 @@ fn fresh_words(alloc: Global, size: &TableSize) -> Result<Vec<u64>, AllocError>
 fn is_within_limits(size: &TableSize) -> bool
     ensures { IsTrue result ↔ IsWithinLimits size.now }
 {
-    (1..=4096).contains(&size.slots)
-        && (1..=1024).contains(&size.rows)
-        && (1..=64).contains(&size.workers)
+    (1..=SLOT_LIMIT).contains(&size.slots)
+        && (1..=ROW_LIMIT).contains(&size.rows)
+        && (1..=WORKER_LIMIT).contains(&size.workers)
 }
 
-fn nobody() -> [bool; 64]
+fn nobody() -> [bool; WORKERS]
     ensures { SaysWhoIsSplit [] result }
 {
-    [false; 64]
+    [false; WORKERS]
 }
 
 /// Makes the shared words of as many slots, rows and workers, and the desk's seat. A number outside its limits is

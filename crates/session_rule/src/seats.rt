@@ -1,13 +1,16 @@
 //! The table and the seats.
 
 ghost use Rattle.std.specs.Prelude.{◌≡◌, ℕ, ◌<◌, ◌≤◌, true, []};
-ghost use Rattle.session_world.specs.Sizes.{IsWithinLimits};
+ghost use Rattle.session_world.specs.Sizes.{worker_limit, IsWithinLimits};
 ghost use Rattle.session_world.specs.Words.{count_of_words};
 ghost use Rattle.session_rule.specs.Splitting.{SaysWhoIsSplit};
 
 use crate::view::{OneSchedule, View};
-use session_world::TableSize;
+use session_world::{TableSize, WORKER_LIMIT};
 use std::alloc::Global;
+
+/// A table has at most so many workers.
+pub(crate) const WORKERS: usize = WORKER_LIMIT as usize;
 
 /// The shared words.
 #[derive(Drop)]
@@ -23,7 +26,7 @@ pub struct Table {
 #[derive(Drop)]
 pub struct Seat {
     pub(crate) seat: atomic_table::Seat<(), View>,
-    pub(crate) split_off: [bool; 64],
+    pub(crate) split_off: [bool; WORKERS],
     ghost lives: { seat.me.0.alive ≡ true },
     ghost desk: { seat.me.0.number ≡ 0 },
     ghost empty: { seat.me.0.pending_worker ≡ 0 },
@@ -37,6 +40,6 @@ pub struct WorkerSeat {
     pub(crate) number: u32,
     ghost lives: { seat.me.0.alive ≡ true },
     ghost numbered: { seat.me.0.number ≡ number },
-    ghost worker: { (0 < number) × (number ≤ 64) },
+    ghost worker: { (0 < number) × (number ≤ worker_limit) },
     ghost bare: { seat.me.1 ≡ [] },
 }

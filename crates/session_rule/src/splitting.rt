@@ -1,11 +1,12 @@
 //! Splitting workers off, and joining them again.
 
 ghost use Rattle.std.specs.Prelude.{◌≡◌, ℕ, ◌<◌, ◌≤◌, false, [], ◌∷◌, IfOk, IfErr, IsOk};
+ghost use Rattle.session_world.specs.Sizes.{worker_limit};
 ghost use Rattle.session_world.specs.Desk.{is_split};
 ghost use Rattle.session_rule.specs.Splitting.{IsLeastFree};
 ghost use Rattle.session_rule.specs.Seats.{size_of, IsDeskOf, IsWorkerOf, desk_steps, joined_parts, worker_number, worker_steps, HasSplitOff, HasJoined};
 
-use crate::seats::{Seat, Table, WorkerSeat};
+use crate::seats::{Seat, Table, WORKERS, WorkerSeat};
 use crate::stepping::load_as;
 use crate::view::{SplitsOff, TakesIn};
 use refl_types::Memory;
@@ -37,11 +38,11 @@ pub fn split_worker(table: &Table, seat: &mut Seat) -> Result<WorkerSeat, Memory
 impl Seat {
     /// The least number that isn't split off.
     fn least_free(&self) -> u32
-        requires { (j : ℕ) × (0 < j) × (j ≤ 64) × (is_split (desk_steps self.now) j ≡ false) }
-        ensures { IsLeastFree (desk_steps self.now) result × (result ≤ 64) }
+        requires { (j : ℕ) × (0 < j) × (j ≤ worker_limit) × (is_split (desk_steps self.now) j ≡ false) }
+        ensures { IsLeastFree (desk_steps self.now) result × (result ≤ worker_limit) }
     {
         let mut at: usize = 0;
-        while at < 64 && self.split_off[at] {
+        while at < WORKERS && self.split_off[at] {
             at += 1;
         }
         at as u32 + 1

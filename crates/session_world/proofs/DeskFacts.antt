@@ -1,7 +1,7 @@
 -- What the desk's own list of allowed steps says by itself.
 use Rattle.std.proofs.Common.{◌≡◌, ◌≢◌, ⊎_elim, ℕ, zero, suc, ◌*◌, ◌<◌, ◌≤◌, ◌==◌, true, false, ◌&&◌, not, if◌then◌else◌, List, [], ◌∷◌, sym, refl, ap, ◌∙◌, subst, arith, eq-eqb, ne_eqb}
 use Rattle.std.proofs.lemmas.Bool.{eqb-true}
-use Rattle.slot_word.specs.declared.TheConstants.{ROW_LIMIT, GENERATION_LIMIT}
+use Rattle.slot_word.specs.Fields.{greatest_generation, greatest_row}
 use Rattle.config_rows.specs.Words.{config_of_words, AreConfigWords}
 use Rattle.session_world.specs.declared.steps.TableSize.{TableSize}
 use Rattle.session_world.specs.declared.steps.Step.{Step}
@@ -54,7 +54,7 @@ open_used z (ReserveNew slot row ∷ ds) did i o = still_used z ds (ReserveNew s
 open_used z (ReserveUsed slot g row ∷ ds) did i o = still_used z ds (ReserveUsed slot g row) did.1 i (open_used z ds did.0 i o)
 open_used z (_ ∷ ds) did i o = open_used z ds did.0 i o
 
-pub generation_low : (z : TableSize) (ds : List Step) → DeskDid z ds → (i : ℕ) → generation_of ds i < GENERATION_LIMIT
+pub generation_low : (z : TableSize) (ds : List Step) → DeskDid z ds → (i : ℕ) → generation_of ds i ≤ greatest_generation
 generation_low z [] did i = omega arith
 generation_low z (ReserveNew slot row ∷ ds) did i = number_case i slot (λ (x : i ≡ slot). rw (eq-eqb i slot x) (omega arith)) (λ (x : i ≢ slot). rw (ne_eqb i slot x) (generation_low z ds did.0 i))
 generation_low z (ReserveUsed slot g row ∷ ds) did i = number_case i slot (λ (x : i ≡ slot). rw (eq-eqb i slot x) (let e = did.1.0 in let l = did.1.1.left in omega (arith, e, l))) (λ (x : i ≢ slot). rw (ne_eqb i slot x) (generation_low z ds did.0 i))
@@ -117,7 +117,7 @@ rows_low z (_ ∷ ds) did = rows_low z ds did.0
 pub complete_low : (z : TableSize) (ds : List Step) → DeskDid z ds → (r : ℕ) → IsComplete ds r → r ≤ z.rows
 complete_low z ds did r c = let a = rows_low z ds did in let b = c.1 in omega (arith, a, b)
 
-pub row_fits : (z : TableSize) (ds : List Step) → IsWithinLimits z → DeskDid z ds → (r : ℕ) → IsComplete ds r → r < ROW_LIMIT
+pub row_fits : (z : TableSize) (ds : List Step) → IsWithinLimits z → DeskDid z ds → (r : ℕ) → IsComplete ds r → r ≤ greatest_row
 row_fits z ds within did r c = let a = complete_low z ds did r c in let b = within.rows in omega (arith, a, b)
 
 pub still_complete : (ds : List Step) (s : Step) (r : ℕ) → IsComplete ds r → IsComplete (s ∷ ds) r

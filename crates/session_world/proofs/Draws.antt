@@ -1,7 +1,6 @@
 -- A draw keeps what ties the state to a history.
 use Rattle.std.proofs.Common.{◌≡◌, ◌≢◌, inr, ⊎_elim, ℕ, suc, ◌+◌, ◌%◌, ◌^◌, ◌==◌, true, false, List, [], ◌∷◌, ◌++◌, get_or, get_or-set_other, get_or-set_same, sym, refl, ap, ◌∙◌, subst, arith, eq-eqb, ne_eqb, Option, Some}
-use Rattle.slot_word.specs.declared.TheConstants.{DRAW}
-use Rattle.slot_word.specs.Fields.{sequence_in, row_in, is_open_word}
+use Rattle.slot_word.specs.Fields.{sequence_unit, sequence_in, row_in, is_open_word}
 use Rattle.slot_word.proofs.Laws.{drawn}
 use Rattle.refl_types.specs.Same.{same_key}
 use Rattle.session_key.specs.Matching.{excludes, matches}
@@ -44,13 +43,13 @@ module _ (z : TableSize) (c : CoreState) (h : List (Event ℕ)) (sound : IsSound
   new_words = words_after z c.words (suc w) (Draw s.slot n)
 
   abbrev added : ℕ
-  added = (get_or c.words (slot_at s.slot) 0 + DRAW) % 2 ^ 64
+  added = (get_or c.words (slot_at s.slot) 0 + sequence_unit) % 2 ^ 64
 
   key_is : key_of s.word ≡ key_of_slot ds s.slot
   key_is = full_key ds s (fit.keys a) b.full
 
-  word_now : get_or new_words (slot_at s.slot) 0 ≡ (n + DRAW) % 2 ^ 64
-  word_now = get_or-set_same c.words (slot_at s.slot) added 0 (let x = sound.words.wide in let y = fit.inside in omega (arith, x, y)) ∙ ap (λ (m : ℕ). (m + DRAW) % 2 ^ 64) (sym reads)
+  word_now : get_or new_words (slot_at s.slot) 0 ≡ (n + sequence_unit) % 2 ^ 64
+  word_now = get_or-set_same c.words (slot_at s.slot) added 0 (let x = sound.words.wide in let y = fit.inside in omega (arith, x, y)) ∙ ap (λ (m : ℕ). (m + sequence_unit) % 2 ^ 64) (sym reads)
 
   word_else : (i : ℕ) → i ≢ s.slot → get_or new_words (slot_at i) 0 ≡ get_or c.words (slot_at i) 0
   word_else i x = get_or-set_other c.words (slot_at s.slot) (slot_at i) added 0 (λ e. omega (arith, e, x))

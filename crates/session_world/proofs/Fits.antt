@@ -3,8 +3,7 @@ use Rattle.std.proofs.Common.{◌≡◌, ◌≢◌, ⊎_elim, ℕ, ◌+◌, ◌-
 use Rattle.std.proofs.lemmas.Bool.{eqb-true}
 use Rattle.std.specs.Int.Bits.{bit_and, bit_or, bit_xor}
 use lib.Seq.{set-get_or}
-use Rattle.slot_word.specs.declared.TheConstants.{DRAW, CLOSED, ROW_LIMIT, GENERATION_LIMIT}
-use Rattle.slot_word.specs.Fields.{sequence_in, generation_in, row_in, is_open_word, word_of}
+use Rattle.slot_word.specs.Fields.{sequence_unit, closed_bit, greatest_generation, greatest_row, sequence_in, generation_in, row_in, is_open_word, word_of}
 use Rattle.slot_word.proofs.Laws.{word_has, drawn, closing_keeps, closing_closes, opening_keeps, opening_opens, exchanged}
 use Rattle.session_world.specs.declared.steps.TableSize.{TableSize}
 use Rattle.session_world.specs.declared.steps.Step.{Step}
@@ -91,7 +90,7 @@ row_set z ws ds row index word f r0 r1 a b = let wide = f.wide in let p : ℕ = 
 
 -- ---- a slot's word after a step on it
 
-reserved_word : (g row : ℕ) → g < GENERATION_LIMIT → row < ROW_LIMIT → SlotWord (word_of 0 g row true) false g row true
+reserved_word : (g row : ℕ) → g ≤ greatest_generation → row ≤ greatest_row → SlotWord (word_of 0 g row true) false g row true
 reserved_word g row hg hr = let h = word_has 0 g row true (omega arith) hg hr in record { small = h.small; opened = h.is_open; generation = h.generation; row = h.row; fresh = λ _. h.sequence }
 
 started_word : (n : ℕ) (o : Bool) (g r : ℕ) (res : Bool) → SlotWord n o g r res → SlotWord (bit_and n (2 ^ 64 - 2)) true g r false
@@ -103,7 +102,7 @@ started_word n o g r res f = let k = opening_keeps n f.small in record {
   fresh = λ e. absurd (true_ne_false (sym e));
 }
 
-closed_word : (n : ℕ) (o : Bool) (g r : ℕ) (res : Bool) → SlotWord n o g r res → SlotWord (bit_or n CLOSED) false g r res
+closed_word : (n : ℕ) (o : Bool) (g r : ℕ) (res : Bool) → SlotWord n o g r res → SlotWord (bit_or n (closed_bit true)) false g r res
 closed_word n o g r res f = let k = closing_keeps n in record {
   small = k.small f.small;
   opened = closing_closes n;
@@ -112,7 +111,7 @@ closed_word n o g r res f = let k = closing_keeps n in record {
   fresh = λ e. k.sequence ∙ f.fresh e;
 }
 
-exchanged_word : (n : ℕ) (o : Bool) (g r : ℕ) (res : Bool) (old new : ℕ) → old ≡ r → new < ROW_LIMIT → SlotWord n o g r res → SlotWord (bit_xor n (bit_xor old new * 2)) o g new res
+exchanged_word : (n : ℕ) (o : Bool) (g r : ℕ) (res : Bool) (old new : ℕ) → old ≡ r → new ≤ greatest_row → SlotWord n o g r res → SlotWord (bit_xor n (bit_xor old new * 2)) o g new res
 exchanged_word n o g r res old new e l f = let x = exchanged n old new (f.row ∙ sym e) l in record {
   small = x.small f.small;
   opened = x.is_open ∙ f.opened;
@@ -121,7 +120,7 @@ exchanged_word n o g r res old new e l f = let x = exchanged n old new (f.row �
   fresh = λ e. x.sequence ∙ f.fresh e;
 }
 
-pub drawn_word : (n : ℕ) (o : Bool) (g r : ℕ) (res : Bool) → res ≡ false → SlotWord n o g r res → SlotWord ((n + DRAW) % 2 ^ 64) o g r res
+pub drawn_word : (n : ℕ) (o : Bool) (g r : ℕ) (res : Bool) → res ≡ false → SlotWord n o g r res → SlotWord ((n + sequence_unit) % 2 ^ 64) o g r res
 drawn_word n o g r res e f = let d = drawn n in record {
   small = d.small;
   opened = d.is_open ∙ f.opened;
@@ -153,7 +152,7 @@ desk_fits z ws ds (Reconfigure slot old new read) within f did may has_read = le
     (rw (eq-eqb slot slot refl) (exchanged_word (get_or ws (slot_at slot) 0) (is_open ds slot) (generation_of ds slot) (row_of ds slot) (is_reserved ds slot) old new may.1 (row_fits z ds within did new may.2) (f.slots slot lt)))
     (λ i n x g. rw (ne_eqb i slot x) g) (λ i k. refl) (λ r k. refl)
 desk_fits z ws ds (Close slot read) within f did may has_read = let lt = open_inside z ds did slot may in
-    slot_set z ws ds (Close slot read ∷ ds) slot (bit_or (get_or ws (slot_at slot) 0) CLOSED) f lt
+    slot_set z ws ds (Close slot read ∷ ds) slot (bit_or (get_or ws (slot_at slot) 0) (closed_bit true)) f lt
     (rw (eq-eqb slot slot refl) (closed_word (get_or ws (slot_at slot) 0) (is_open ds slot) (generation_of ds slot) (row_of ds slot) (is_reserved ds slot) (f.slots slot lt)))
     (λ i n x g. rw (ne_eqb i slot x) g) (λ i k. refl) (λ r k. refl)
 desk_fits z ws ds (Peek slot read) within f did may has_read = let lt = open_inside z ds did slot may in
@@ -161,7 +160,7 @@ desk_fits z ws ds (Peek slot read) within f did may has_read = let lt = open_ins
 desk_fits z ws ds (Expire slot expected read) within f did may has_read = let lt = open_inside z ds did slot may.0 in let n : ℕ = get_or ws (slot_at slot) 0 in let g = f.slots slot lt in
     slot_set z ws ds (Expire slot expected read ∷ ds) slot (word_after (Expire slot expected read) n) f lt (⊎_elim
     (λ (e : (read == expected) ≡ true). let here : n ≡ expected = sym has_read ∙ eqb-true read expected e in
-    rw (eq-eqb slot slot refl, e, eq-eqb n expected here) (subst (λ (m : ℕ). SlotWord (bit_or m CLOSED) false (generation_of ds slot) (row_of ds slot) (is_reserved ds slot)) here (closed_word n (is_open ds slot) (generation_of ds slot) (row_of ds slot) (is_reserved ds slot) g)))
+    rw (eq-eqb slot slot refl, e, eq-eqb n expected here) (subst (λ (m : ℕ). SlotWord (bit_or m (closed_bit true)) false (generation_of ds slot) (row_of ds slot) (is_reserved ds slot)) here (closed_word n (is_open ds slot) (generation_of ds slot) (row_of ds slot) (is_reserved ds slot) g)))
     (λ (e : (read == expected) ≡ false). let other : (n == expected) ≡ false = ap (λ (m : ℕ). m == expected) (sym has_read) ∙ e in rw (eq-eqb slot slot refl, e, other) g)
     (bool (read == expected)))
     (λ i m x h. rw (ne_eqb i slot x) h) (λ i k. refl) (λ r k. refl)
@@ -178,6 +177,6 @@ load_fits z ws p ds f = same_words z ws p ds f
 pub announce_fits : (z : TableSize) (ws : List ℕ) (ds : List Step) (w x : ℕ) → WordsFit z ws ds → WordsFit z (set ws (announced_at z w) x) ds
 announce_fits z ws ds w x f = far_set z ws ds (announced_at z w) x (omega arith) f
 
-pub draw_fits : (z : TableSize) (ws : List ℕ) (ds : List Step) (slot : ℕ) → slot < z.slots → is_reserved ds slot ≡ false → WordsFit z ws ds → WordsFit z (set ws (slot_at slot) ((get_or ws (slot_at slot) 0 + DRAW) % 2 ^ 64)) ds
-draw_fits z ws ds slot lt unreserved f = slot_set z ws ds ds slot ((get_or ws (slot_at slot) 0 + DRAW) % 2 ^ 64) f lt
+pub draw_fits : (z : TableSize) (ws : List ℕ) (ds : List Step) (slot : ℕ) → slot < z.slots → is_reserved ds slot ≡ false → WordsFit z ws ds → WordsFit z (set ws (slot_at slot) ((get_or ws (slot_at slot) 0 + sequence_unit) % 2 ^ 64)) ds
+draw_fits z ws ds slot lt unreserved f = slot_set z ws ds ds slot ((get_or ws (slot_at slot) 0 + sequence_unit) % 2 ^ 64) f lt
     (drawn_word (get_or ws (slot_at slot) 0) (is_open ds slot) (generation_of ds slot) (row_of ds slot) (is_reserved ds slot) unreserved (f.slots slot lt)) (λ i n x g. g) (λ i k. refl) (λ r k. refl)

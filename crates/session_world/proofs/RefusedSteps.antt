@@ -2,8 +2,7 @@
 use Rattle.std.proofs.Common.{◌≡◌, ◌≢◌, ◌⊎◌, inl, inr, ⊎_elim, ℕ, suc, ◌+◌, ◌%◌, ◌^◌, ◌<◌, ◌≤◌, ◌==◌, Bool, true, false, if◌then◌else◌, List, [], ◌∷◌, ◌++◌, length, map, take, get_or, get_or-set_other, get_or-set_same, sym, refl, ap, ◌∙◌, subst, arith, eq-eqb, ne_eqb, Option, Some, None}
 use Rattle.std.proofs.lemmas.Bool.{eqb-true}
 use lib.Seq.{set-get_or}
-use Rattle.slot_word.specs.declared.TheConstants.{DRAW}
-use Rattle.slot_word.specs.Fields.{sequence_in, row_in}
+use Rattle.slot_word.specs.Fields.{sequence_unit, sequence_in, row_in}
 use Rattle.refl_types.specs.Same.{same_key}
 use Rattle.session_key.specs.Matching.{matches}
 use Rattle.session_world.specs.declared.steps.TableSize.{TableSize}
@@ -26,7 +25,7 @@ use Rattle.session_world.proofs.Sound.{IsSound, run_sound}
 -- ---- steps of workers
 
 kept_or_drawn : (z : TableSize) (c : CoreState) (w i : ℕ) (s : Step) → IsSound z c → is_split c.desk (suc w) ≡ true → WorkerMay z (c.living_part (suc w)) s → HasRead s (get_or c.words (word_index z (suc w) s) 0) → i < z.slots
-    → (get_or (words_after z c.words (suc w) s) (slot_at i) 0 ≡ get_or c.words (slot_at i) 0) ⊎ ((s ≡ Draw i (get_or c.words (slot_at i) 0)) × (get_or (words_after z c.words (suc w) s) (slot_at i) 0 ≡ (get_or c.words (slot_at i) 0 + DRAW) % 2 ^ 64))
+    → (get_or (words_after z c.words (suc w) s) (slot_at i) 0 ≡ get_or c.words (slot_at i) 0) ⊎ ((s ≡ Draw i (get_or c.words (slot_at i) 0)) × (get_or (words_after z c.words (suc w) s) (slot_at i) 0 ≡ (get_or c.words (slot_at i) 0 + sequence_unit) % 2 ^ 64))
 kept_or_drawn z c w i (Announce slot) t split may has_read lt = inl (get_or-set_other c.words (announced_at z (suc w)) (slot_at i) (slot + 1) 0 (λ e. omega (arith, e, lt)))
 kept_or_drawn z c w i Retire t split may has_read lt = inl (get_or-set_other c.words (announced_at z (suc w)) (slot_at i) 0 0 (λ e. omega (arith, e, lt)))
 kept_or_drawn z c w i (Look slot query read) t split may has_read lt = inl (ap (λ (ws : List ℕ). get_or ws (slot_at i) 0) (set-get_or c.words (slot_at slot) 0))
@@ -35,7 +34,7 @@ kept_or_drawn z c w i (LoadRow row index read) t split may has_read lt = inl (ap
 kept_or_drawn z c w i (Draw slot read) t split may has_read lt = let x : ℕ = word_after (Draw slot read) (get_or c.words (slot_at slot) 0) in number_case i slot
     (λ (e : i ≡ slot). let wide = t.words.wide in inr (
       λ n. Draw (sym e n) ((has_read ∙ ap (λ (j : ℕ). get_or c.words (slot_at j) 0) (sym e)) n),
-      subst (λ (j : ℕ). get_or (words_after z c.words (suc w) (Draw slot read)) (slot_at j) 0 ≡ (get_or c.words (slot_at j) 0 + DRAW) % 2 ^ 64) (sym e) (get_or-set_same c.words (slot_at slot) x 0 (omega (arith, wide, lt, e))),
+      subst (λ (j : ℕ). get_or (words_after z c.words (suc w) (Draw slot read)) (slot_at j) 0 ≡ (get_or c.words (slot_at j) 0 + sequence_unit) % 2 ^ 64) (sym e) (get_or-set_same c.words (slot_at slot) x 0 (omega (arith, wide, lt, e))),
     ))
     (λ (n : i ≢ slot). inl (get_or-set_other c.words (slot_at slot) (slot_at i) x 0 (λ e. omega (arith, e, n))))
 kept_or_drawn z c w i _ t split may has_read lt = absurd may
@@ -43,7 +42,7 @@ kept_or_drawn z c w i _ t split may has_read lt = absurd may
 pub only_draws_change : OnlyDrawsChange
 only_draws_change z m ms w i within r by lt = let c : CoreState = run z ms in
     subst (λ (a : ℕ). IsAllowed z a c.desk (own_steps c a) m.step → HasRead m.step (get_or c.words (word_index z a m.step) 0)
-    → (get_or (state_after z c a m.step).words (slot_at i) 0 ≡ get_or c.words (slot_at i) 0) ⊎ ((m.step ≡ Draw i (get_or c.words (slot_at i) 0)) × (get_or (state_after z c a m.step).words (slot_at i) 0 ≡ (get_or c.words (slot_at i) 0 + DRAW) % 2 ^ 64)))
+    → (get_or (state_after z c a m.step).words (slot_at i) 0 ≡ get_or c.words (slot_at i) 0) ⊎ ((m.step ≡ Draw i (get_or c.words (slot_at i) 0)) × (get_or (state_after z c a m.step).words (slot_at i) 0 ≡ (get_or c.words (slot_at i) 0 + sequence_unit) % 2 ^ 64)))
     (sym by) (λ may has_read. kept_or_drawn z c w i m.step (run_sound z ms within r.0) may.0 may.1 has_read lt) r.1 r.2
 
 pub looks_are_announced : LooksAreAnnounced

@@ -1,6 +1,6 @@
 -- What the desk's own list of steps says of the slots, of the rows and of the workers (this project's own). The latest step comes first.
 use Rattle.std.specs.Prelude.{◌≡◌, ℕ, suc, ◌+◌, ◌*◌, ◌<◌, ◌≤◌, ◌==◌, Bool, true, false, ◌||◌, ◌&&◌, not, if◌then◌else◌, List, [], ◌∷◌}
-use Rattle.slot_word.specs.declared.TheConstants.{GENERATION_LIMIT}
+use Rattle.slot_word.specs.Fields.{greatest_generation}
 use Rattle.session_world.specs.declared.steps.TableSize.{TableSize}
 use Rattle.session_world.specs.declared.steps.Step.{Step}
 use Rattle.session_world.specs.declared.steps.Step.TheVariants.{WriteRow, WriteKey, ReserveNew, Start, Split, Reconfigure, Close, Expire, Join, Scan, ReserveUsed}
@@ -104,7 +104,7 @@ written_since (s ∷ ds) i k = not (ends_use s i) && written_since ds i k
 -- the slot may be used again: it was used, it is closed, a further generation is left, and every worker was scanned since
 pub record MayReuse (z : TableSize) (ds : List Step) (i : ℕ) : Type 0 where
   pub used : ¬ (generation_of ds i ≡ 0)
-  pub left : generation_of ds i + 1 < GENERATION_LIMIT
+  pub left : generation_of ds i < greatest_generation
   pub closed : is_open ds i ≡ false
   pub scanned : (w : ℕ) → 0 < w → w ≤ z.workers → scanned_since ds i w ≡ true
 

@@ -1,6 +1,6 @@
 -- What the desk's list says of slots and rows, where each of its steps was allowed (this project's own).
 use Rattle.std.specs.Prelude.{◌≡◌, ℕ, ◌<◌, ◌≤◌, true, false, List, ◌∷◌}
-use Rattle.slot_word.specs.declared.TheConstants.{GENERATION_LIMIT}
+use Rattle.slot_word.specs.Fields.{greatest_generation}
 use Rattle.session_world.specs.declared.steps.TableSize.{TableSize}
 use Rattle.session_world.specs.declared.steps.Step.{Step}
 use Rattle.session_world.specs.declared.steps.Part.{Part}
@@ -16,7 +16,7 @@ DeskIsAllowed = (z : TableSize) (ds : List Step) (ps : List Part) → IsDeskOfOn
 -- Slots that are reserved or open are slots of the table that were used, and none is both. The key words of a reserved slot
 -- are those of a key. The row of a slot that was used is complete, and the words of a complete row are a configuration's
 pub record HasSoundSlots (z : TableSize) (ds : List Step) : Type 0 where
-  pub generation_low : (i : ℕ) → generation_of ds i < GENERATION_LIMIT
+  pub generation_low : (i : ℕ) → generation_of ds i ≤ greatest_generation
   pub open_used : (i : ℕ) → is_open ds i ≡ true → ¬ (generation_of ds i ≡ 0)
   pub open_inside : (i : ℕ) → is_open ds i ≡ true → i < z.slots
   pub reserved_used : (i : ℕ) → is_reserved ds i ≡ true → ¬ (generation_of ds i ≡ 0)

@@ -1,6 +1,6 @@
 -- What no schedule that runs has, and what no history explains (this project's own).
 use Rattle.std.specs.Prelude.{◌≡◌, ◌⊎◌, ℕ, suc, ◌+◌, ◌%◌, ◌^◌, ◌<◌, ◌≤◌, true, List, [], ◌∷◌}
-use Rattle.slot_word.specs.declared.TheConstants.{DRAW}
+use Rattle.slot_word.specs.Fields.{sequence_unit}
 use Rattle.session_key.specs.Matching.{matches}
 use Rattle.session_world.specs.declared.steps.TableSize.{TableSize}
 use Rattle.session_world.specs.declared.steps.Step.{Step}
@@ -22,7 +22,7 @@ abbrev pub OnlyDrawsChange : Type 0
 OnlyDrawsChange = (z : TableSize) (m : ScheduledStep) (ms : List ScheduledStep) (w i : ℕ)
     → IsWithinLimits z → Runs z (m ∷ ms) → m.actor ≡ suc w → i < z.slots
     → (word_at (run z (m ∷ ms)) (slot_at i) ≡ word_at (run z ms) (slot_at i))
-    ⊎ ((m.step ≡ Draw i (word_at (run z ms) (slot_at i))) × (word_at (run z (m ∷ ms)) (slot_at i) ≡ (word_at (run z ms) (slot_at i) + DRAW) % 2 ^ 64))
+    ⊎ ((m.step ≡ Draw i (word_at (run z ms) (slot_at i))) × (word_at (run z (m ∷ ms)) (slot_at i) ≡ (word_at (run z ms) (slot_at i) + sequence_unit) % 2 ^ 64))
 
 -- a used slot is reserved only where every worker was scanned since the slot was closed
 abbrev pub ReuseIsScanned : Type 0

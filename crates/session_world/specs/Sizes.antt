@@ -1,12 +1,14 @@
 -- How large a table may be (this project's own).
 use Rattle.std.specs.Prelude.{ℕ, ◌<◌, ◌≤◌}
+use Rattle.slot_word.specs.Fields.{greatest_row}
 use Rattle.session_world.specs.declared.steps.TableSize.{TableSize}
 
 abbrev pub slot_limit : ℕ
-slot_limit = 4096
+slot_limit = 16384
 
+-- as many as a slot's word can name
 abbrev pub row_limit : ℕ
-row_limit = 1024
+row_limit = greatest_row
 
 abbrev pub worker_limit : ℕ
 worker_limit = 64

@@ -1,8 +1,7 @@
 -- Where the words lie, and what each step does to its one word (this project's own).
 use Rattle.std.specs.Prelude.{◌≡◌, ℕ, zero, suc, ◌+◌, ◌-◌, ◌*◌, ◌%◌, ◌^◌, ◌==◌, true, List, [], ◌∷◌, ◌++◌, replicate, bit_and, bit_or, bit_xor, slice_index, slice_set}
 use prog.Atomic.{either}
-use Rattle.slot_word.specs.declared.TheConstants.{DRAW, CLOSED}
-use Rattle.slot_word.specs.Fields.{word_of}
+use Rattle.slot_word.specs.Fields.{sequence_unit, row_unit, closed_bit, word_of}
 use Rattle.session_world.specs.declared.steps.TableSize.{TableSize}
 use Rattle.session_world.specs.declared.steps.Step.{Step}
 use Rattle.session_world.specs.declared.steps.Step.TheVariants.{WriteRow, WriteKey, ReserveNew, Start, Look, LoadKey, Draw, Split, LoadRow, Reconfigure, Close, Peek, Expire, Join, Announce, Retire, Scan, ReserveUsed}
@@ -63,13 +62,13 @@ word_after (ReserveNew slot row) n = word_of 0 1 row true
 word_after (Start slot read) n = bit_and n (2 ^ 64 - 2)
 word_after (Look slot query read) n = n
 word_after (LoadKey slot index read) n = n
-word_after (Draw slot read) n = (n + DRAW) % 2 ^ 64
+word_after (Draw slot read) n = (n + sequence_unit) % 2 ^ 64
 word_after (Split worker read) n = n
 word_after (LoadRow row index read) n = n
-word_after (Reconfigure slot old new read) n = bit_xor n (bit_xor old new * 2)
-word_after (Close slot read) n = bit_or n CLOSED
+word_after (Reconfigure slot old new read) n = bit_xor n (bit_xor old new * row_unit)
+word_after (Close slot read) n = bit_or n (closed_bit true)
 word_after (Peek slot read) n = n
-word_after (Expire slot expected read) n = either (n == expected) (bit_or expected CLOSED) n
+word_after (Expire slot expected read) n = either (n == expected) (bit_or expected (closed_bit true)) n
 word_after (Join worker read) n = n
 word_after (Announce slot) n = slot + 1
 word_after Retire n = 0

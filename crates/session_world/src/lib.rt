@@ -22,5 +22,5 @@ pub use refusals::{
     law_reuse,
 };
 pub use session_key::Query;
-pub use steps::{Actor, Part, Step, TableSize};
+pub use steps::{Actor, Part, ROW_LIMIT, SLOT_LIMIT, Step, TableSize, WORKER_LIMIT};
 pub use world::World;

@@ -2,7 +2,16 @@
 use session_key::Query;
 use std::collections::LinkedList;
 
-/// How many slots, rows and workers a table has: 1 to 4,096 slots, 1 to 1,024 rows, 1 to 64 workers.
+/// A table has at most so many slots.
+pub const SLOT_LIMIT: u32 = 16_384;
+
+/// A table has at most so many rows, as many as a slot's word can name.
+pub const ROW_LIMIT: u32 = slot_word::GREATEST_ROW;
+
+/// A table has at most so many workers.
+pub const WORKER_LIMIT: u32 = 64;
+
+/// How many slots, rows and workers a table has: 1 to 16,384 slots, 1 to 8,191 rows, 1 to 64 workers.
 #[derive(Clone, Copy, Debug, PartialEq, Eq)]
 pub struct TableSize {
     pub slots: u32,

@@ -5,7 +5,7 @@ ghost use Rattle.session_world.specs.Words.{first_words, word_index, word_after,
 
 use crate::steps::{Actor, Step, TableSize};
 use refl_types::Memory;
-use slot_word::{CLOSED, DRAW, ROW_LIMIT};
+use slot_word::{CLOSED, DRAW, GENERATION_UNIT};
 use std::alloc::Global;
 
 /// The words of a table: five of each slot, twelve of each row, and the announcement word of each worker.
@@ -19,7 +19,7 @@ pub struct World {
 fn closed_word(generation: u32, row: u32) -> u64
     ensures { result ≡ word_of 0 generation row true }
 {
-    u64::from(generation) * (ROW_LIMIT * 2) + u64::from(row) * 2 + CLOSED
+    u64::from(generation) * GENERATION_UNIT + u64::from(row) * 2 + CLOSED
 }
 
 impl Step {

@@ -1,26 +1,43 @@
--- The fields of a slot's word (this project's own), from the high bits down: the sequence number of the next reply,
--- 32 bits; how often the slot was used; the row of its configuration; and one bit that is set where it is closed.
+-- The fields of a slot's word (this project's own), from the high bits down: the sequence number of the next reply, 32 bits;
+-- how often the slot was used, 18 bits; the row of its configuration, 13 bits; and one bit that is set where it is closed.
+-- The numbers stand here as numbers: no constant of the code moves them.
 use Rattle.std.specs.Prelude.{◌≡◌, ℕ, suc, ◌+◌, ◌*◌, ◌/◌, ◌%◌, ◌^◌, ◌<◌, ◌==◌, Bool, true, false, not}
-use Rattle.slot_word.specs.declared.TheConstants.{ROW_LIMIT, GENERATION_LIMIT, DRAW}
 
-unfoldable pub sequence_in : ℕ → ℕ
-sequence_in n = n / DRAW
+-- what one of each field counts for in a word
+abbrev pub sequence_unit : ℕ
+sequence_unit = 2 ^ 32
 
-unfoldable pub generation_in : ℕ → ℕ
-generation_in n = n / (ROW_LIMIT * 2) % GENERATION_LIMIT
+abbrev pub generation_unit : ℕ
+generation_unit = 2 ^ 14
 
-unfoldable pub row_in : ℕ → ℕ
-row_in n = n / 2 % ROW_LIMIT
-
-unfoldable pub is_open_word : ℕ → Bool
-is_open_word n = n % 2 == 0
+abbrev pub row_unit : ℕ
+row_unit = 2
 
 abbrev pub closed_bit : Bool → ℕ
 closed_bit true = 1
 closed_bit false = 0
 
+-- the greatest generation and the greatest row that a word has room for
+abbrev pub greatest_generation : ℕ
+greatest_generation = 262143
+
+abbrev pub greatest_row : ℕ
+greatest_row = 8191
+
+unfoldable pub sequence_in : ℕ → ℕ
+sequence_in n = n / sequence_unit
+
+unfoldable pub generation_in : ℕ → ℕ
+generation_in n = n % sequence_unit / generation_unit
+
+unfoldable pub row_in : ℕ → ℕ
+row_in n = n % generation_unit / row_unit
+
+unfoldable pub is_open_word : ℕ → Bool
+is_open_word n = n % row_unit == 0
+
 unfoldable pub word_of : (sequence generation row : ℕ) (closed : Bool) → ℕ
-word_of sequence generation row closed = sequence * DRAW + generation * (ROW_LIMIT * 2) + row * 2 + closed_bit closed
+word_of sequence generation row closed = sequence * sequence_unit + generation * generation_unit + row * row_unit + closed_bit closed
 
 -- ---- what changes of a word do to its fields
 

@@ -2,24 +2,24 @@
 //! configuration and whether it is closed.
 #![tactic(auto)]
 
-ghost use Rattle.std.specs.Prelude.{◌≡◌, ◌<◌, not};
-ghost use Rattle.slot_word.specs.Fields.{sequence_in, generation_in, row_in, is_open_word, word_of};
+ghost use Rattle.std.specs.Prelude.{◌≡◌, ◌≤◌, not};
+ghost use Rattle.slot_word.specs.Fields.{greatest_generation, greatest_row, sequence_in, generation_in, row_in, is_open_word, word_of};
 
 mod field_laws;
 
-pub use field_laws::{law_closed, law_draw, law_exchange, law_fields};
+pub use field_laws::{law_closed, law_constants, law_draw, law_exchange, law_fields};
 
-/// How many bits of a word the row takes.
-pub const ROW_BITS: u32 = 15;
+/// How many bits of a word the row takes. The generation takes what the sequence number, the row and the closed bit leave.
+pub const ROW_BITS: u32 = 13;
 
-/// How many bits of a word the generation takes: what the sequence number, the row and the closed bit leave.
-pub const GENERATION_BITS: u32 = 31 - ROW_BITS;
+/// The greatest row that a word has room for: 8,191.
+pub const GREATEST_ROW: u32 = (1 << ROW_BITS) - 1;
 
-/// A row is below this.
-pub const ROW_LIMIT: u64 = 1 << ROW_BITS;
+/// The greatest generation that a word has room for: 262,143.
+pub const GREATEST_GENERATION: u32 = (1 << (31 - ROW_BITS)) - 1;
 
-/// A generation is below this.
-pub const GENERATION_LIMIT: u64 = 1 << GENERATION_BITS;
+/// What one generation counts for in a word.
+pub const GENERATION_UNIT: u64 = 2 << ROW_BITS;
 
 /// What is added to a word to draw its sequence number.
 pub const DRAW: u64 = 1 << 32;
@@ -27,17 +27,14 @@ pub const DRAW: u64 = 1 << 32;
 /// The bit of a word that is set where the slot is closed.
 pub const CLOSED: u64 = 1;
 
-// The four fields fill the word.
-const _: () = prove!(ROW_LIMIT * 2 * GENERATION_LIMIT == DRAW);
-
 /// What a slot's word says.
 #[derive(Clone, Copy, Debug, PartialEq, Eq)]
 pub struct Fields {
     /// The sequence number of the next reply.
     pub sequence: u32,
-    /// How often the slot was used.
+    /// How often the slot was used: at most `GREATEST_GENERATION`.
     pub generation: u32,
-    /// The row of its configuration, counted from 1, or 0 for none.
+    /// The row of its configuration, counted from 1 to at most `GREATEST_ROW`, or 0 for none.
     pub row: u32,
     /// No datagram is answered.
     pub closed: bool,
@@ -46,13 +43,13 @@ pub struct Fields {
 /// The word of these fields.
 #[tactic(auto, unfolding(crate::specs::Fields::word_of))]
 pub fn pack(fields: &Fields) -> u64
-    requires generation { fields.now.generation < GENERATION_LIMIT }
-    requires row { fields.now.row < ROW_LIMIT }
+    requires generation { fields.now.generation ≤ greatest_generation }
+    requires row { fields.now.row ≤ greatest_row }
     ensures { result ≡ word_of fields.now.sequence fields.now.generation fields.now.row fields.now.closed }
 {
     let closed = if fields.closed { CLOSED } else { 0 };
     u64::from(fields.sequence) * DRAW
-        + u64::from(fields.generation) * (ROW_LIMIT * 2)
+        + u64::from(fields.generation) * GENERATION_UNIT
         + u64::from(fields.row) * 2
         + closed
 }
@@ -67,8 +64,8 @@ pub fn unpack(word: u64) -> Fields
 {
     Fields {
         sequence: (word / DRAW) as u32,
-        generation: (word / (ROW_LIMIT * 2) % GENERATION_LIMIT) as u32,
-        row: (word / 2 % ROW_LIMIT) as u32,
+        generation: (word % DRAW / GENERATION_UNIT) as u32,
+        row: (word % GENERATION_UNIT / 2) as u32,
         closed: word % 2 == 1,
     }
 }
@@ -79,7 +76,7 @@ mod tests {
 
     #[test]
     fn a_draw_at_the_last_sequence_number_leaves_the_other_fields(rt: HostRuntime) {
-        let word = 0xFFFF_FFFF_0003_0004;
+        let word = 0xFFFF_FFFF_0000_C004;
         let fields = Fields {
             sequence: 4294967295,
             generation: 3,
@@ -88,7 +85,7 @@ mod tests {
         };
         assert_eq!(rt; unpack(word), fields);
         assert_eq!(rt; pack(&fields), word);
-        assert_eq!(rt; word.wrapping_add(DRAW), 0x0000_0000_0003_0004);
+        assert_eq!(rt; word.wrapping_add(DRAW), 0x0000_0000_0000_C004);
         assert!(rt; unpack(word | CLOSED).closed);
     }
 }

@@ -201,10 +201,7 @@ pub fn may_reuse(size: &TableSize, moves: &[Move], slot: u32) -> bool {
     for worker in 0..size.workers {
         scanned = scanned && is_scanned_since(moves, slot, worker.saturating_add(1));
     }
-    0 < used
-        && u64::from(used) + 1 < slot_word::GENERATION_LIMIT
-        && !is_open(moves, slot)
-        && scanned
+    0 < used && used < slot_word::GREATEST_GENERATION && !is_open(moves, slot) && scanned
 }
 
 pub fn may_reserve(size: &TableSize, moves: &[Move], slot: u32, row: u32) -> bool {
