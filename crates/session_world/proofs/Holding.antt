@@ -116,8 +116,27 @@ desk_guard z ws ds s w xs did may has_read g = record {
 pub new_guard : (z : TableSize) (ws : List ℕ) (ds : List Step) (w : ℕ) → 0 < w → w ≤ z.workers → Guard z ws ds w []
 new_guard z ws ds w low high = record { low = low; high = high; word = λ i e. absurd (some_none i e); held = λ i h. absurd (true_ne_false (sym h)) }
 
+-- what a worker's step needs of what the worker announces and holds
+abbrev pub MayHold : TableSize → List Step → Step → Type 0
+MayHold z xs (Announce slot) = Unit {0}
+MayHold z xs Retire = Unit {0}
+MayHold z xs (Look slot query read) = (slot < z.slots) × (announced xs ≡ Some slot)
+MayHold z xs (LoadKey slot index read) = Unit {0}
+MayHold z xs (LoadRow row index read) = Unit {0}
+MayHold z xs (Draw slot read) = holds xs slot ≡ true
+MayHold z xs _ = ⊥
+
+pub may_hold : (z : TableSize) (xs : List Step) (s : Step) → WorkerMay z xs s → MayHold z xs s
+may_hold z xs (Announce slot) may = tt
+may_hold z xs Retire may = tt
+may_hold z xs (Look slot query n) may = may
+may_hold z xs (LoadKey slot index n) may = tt
+may_hold z xs (LoadRow row index n) may = tt
+may_hold z xs (Draw slot n) may = may.0
+may_hold z xs _ may = absurd may
+
 -- a worker's own step
-pub own_guard : (z : TableSize) (ws : List ℕ) (ds : List Step) (w : ℕ) (xs : List Step) (s : Step) → DeskDid z ds → WordsFit z ws ds → Guard z ws ds w xs → WorkerMay z xs s → HasRead s (get_or ws (word_index z w s) 0) → Guard z (words_after z ws w s) ds w (s ∷ xs)
+pub own_guard : (z : TableSize) (ws : List ℕ) (ds : List Step) (w : ℕ) (xs : List Step) (s : Step) → DeskDid z ds → WordsFit z ws ds → Guard z ws ds w xs → MayHold z xs s → HasRead s (get_or ws (word_index z w s) 0) → Guard z (words_after z ws w s) ds w (s ∷ xs)
 own_guard z ws ds w xs (Announce slot) did f g may has_read = let lo = g.low in let hi = g.high in let wide = f.wide in record {
   low = g.low;
   high = g.high;
@@ -154,7 +173,7 @@ own_guard z ws ds w xs (LoadRow row index n) did f g may has_read = record {
   word = λ i e. ap (λ (ys : List ℕ). get_or ys (announced_at z w) 0) (set-get_or ws (row_at z row index) 0) ∙ g.word i e;
   held = λ i h. let y = g.held i h in record { announces = y.announces; inside = y.inside; used = y.used; unreserved = y.unreserved; unscanned = y.unscanned };
 }
-own_guard z ws ds w xs (Draw slot n) did f g may has_read = let a = (g.held slot may.0).inside in record {
+own_guard z ws ds w xs (Draw slot n) did f g may has_read = let a = (g.held slot may).inside in record {
   low = g.low;
   high = g.high;
   word = λ i e. get_or-set_other ws (slot_at slot) (announced_at z w) (word_after (Draw slot n) (get_or ws (slot_at slot) 0)) 0 (λ x. omega (arith, a, x)) ∙ g.word i e;
@@ -163,14 +182,14 @@ own_guard z ws ds w xs (Draw slot n) did f g may has_read = let a = (g.held slot
 own_guard z ws ds w xs _ did f g may has_read = absurd may
 
 -- another worker's step writes neither this worker's announcement word nor a word that the desk's list speaks of
-other_word : (z : TableSize) (ws : List ℕ) (ds : List Step) (u w : ℕ) (s : Step) (xs : List Step) → Guard z ws ds u xs → WorkerMay z xs s → 0 < w → w ≢ u → get_or (words_after z ws u s) (announced_at z w) 0 ≡ get_or ws (announced_at z w) 0
+other_word : (z : TableSize) (ws : List ℕ) (ds : List Step) (u w : ℕ) (s : Step) (xs : List Step) → Guard z ws ds u xs → MayHold z xs s → 0 < w → w ≢ u → get_or (words_after z ws u s) (announced_at z w) 0 ≡ get_or ws (announced_at z w) 0
 other_word z ws ds u w (Announce slot) xs g may lo n = let l = g.low in get_or-set_other ws (announced_at z u) (announced_at z w) (slot + 1) 0 (λ x. omega (arith, x, n, lo, l))
 other_word z ws ds u w Retire xs g may lo n = let l = g.low in get_or-set_other ws (announced_at z u) (announced_at z w) 0 0 (λ x. omega (arith, x, n, lo, l))
 other_word z ws ds u w (Look slot query r) xs g may lo n = ap (λ (ys : List ℕ). get_or ys (announced_at z w) 0) (set-get_or ws (slot_at slot) 0)
 other_word z ws ds u w (LoadKey slot index r) xs g may lo n = ap (λ (ys : List ℕ). get_or ys (announced_at z w) 0) (set-get_or ws (key_at slot index) 0)
 other_word z ws ds u w (LoadRow row index r) xs g may lo n = ap (λ (ys : List ℕ). get_or ys (announced_at z w) 0) (set-get_or ws (row_at z row index) 0)
-other_word z ws ds u w (Draw slot r) xs g may lo n = let a = (g.held slot may.0).inside in get_or-set_other ws (slot_at slot) (announced_at z w) (word_after (Draw slot r) (get_or ws (slot_at slot) 0)) 0 (λ x. omega (arith, a, x))
+other_word z ws ds u w (Draw slot r) xs g may lo n = let a = (g.held slot may).inside in get_or-set_other ws (slot_at slot) (announced_at z w) (word_after (Draw slot r) (get_or ws (slot_at slot) 0)) 0 (λ x. omega (arith, a, x))
 other_word z ws ds u w _ xs g may lo n = absurd may
 
-pub other_guard : (z : TableSize) (ws : List ℕ) (ds : List Step) (u w : ℕ) (s : Step) (xs ys : List Step) → Guard z ws ds u xs → WorkerMay z xs s → w ≢ u → Guard z ws ds w ys → Guard z (words_after z ws u s) ds w ys
+pub other_guard : (z : TableSize) (ws : List ℕ) (ds : List Step) (u w : ℕ) (s : Step) (xs ys : List Step) → Guard z ws ds u xs → MayHold z xs s → w ≢ u → Guard z ws ds w ys → Guard z (words_after z ws u s) ds w ys
 other_guard z ws ds u w s xs ys g may n h = record { low = h.low; high = h.high; word = λ i e. other_word z ws ds u w s xs g may h.low n ∙ h.word i e; held = h.held }

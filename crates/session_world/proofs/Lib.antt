@@ -7,6 +7,7 @@ pub mod SlotFacts
 pub mod Fits
 pub mod Holding
 pub mod Sound
+pub mod HeldSlots
 pub mod ReadWords
 pub mod Histories
 pub mod Tied

@@ -16,11 +16,13 @@ use Rattle.session_world.specs.Allowed.{WorkerMay, IsAllowed}
 use Rattle.session_world.specs.Runs.{CoreState, state_after, own_steps, run}
 use Rattle.session_world.specs.History.{Session, Event, drawn, entry_after, map_after, IsLegalAt, IsBy, IsLegal}
 use Rattle.session_world.specs.Explains.{Span, living_span, ended_spans, spans_of, answers_of_spans, with_wrapped_counts, answers_in, desk_count, desk_events_before, AllWithin, IsInSpans}
+use Rattle.session_world.specs.Held.{all_steps}
 use Rattle.session_world.specs.Refusals.{OnlyDrawsChange, ReuseIsScanned, TakesSlot, HeldIsNotTaken, LooksAreAnnounced, ExpiresAreExact, NoFalseMiss}
 use Rattle.session_world.proofs.BoolFacts.{true_ne_false, bool, number_case, if_yes}
 use Rattle.session_world.proofs.KeyFacts.{same_key_refl}
 use Rattle.session_world.proofs.Holding.{Spares, spares}
 use Rattle.session_world.proofs.Sound.{IsSound, run_sound}
+use Rattle.session_world.proofs.HeldSlots.{held_guard}
 
 -- ---- steps of workers
 
@@ -61,7 +63,7 @@ spared_not_taken (ReserveUsed slot generation row) i n = n
 spared_not_taken _ i n = λ e. e
 
 pub held_is_not_taken : HeldIsNotTaken
-held_is_not_taken z s ms w i within r split h = let c : CoreState = run z ms in spared_not_taken s i (spares z c.words c.desk (suc w) (c.living_part (suc w)) i s ((run_sound z ms within r.0).guards w split) h r.1)
+held_is_not_taken z s ms w i within r h = let c : CoreState = run z ms in spared_not_taken s i (spares z c.words c.desk (suc w) (all_steps c (suc w)) i s (held_guard z ms w i within r.0 h) h r.1)
 
 pub expires_are_exact : ExpiresAreExact
 expires_are_exact ds (Expire slot expected read) k n row e = ⊎_elim

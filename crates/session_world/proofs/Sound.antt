@@ -1,4 +1,4 @@
--- What is so of the state after every schedule that runs, and that a held slot stays.
+-- What is so of the state after every schedule that runs.
 use Rattle.std.proofs.Common.{◌≡◌, ◌≢◌, ℕ, zero, suc, ◌+◌, ◌*◌, ◌<◌, ◌≤◌, ◌==◌, true, not, List, [], ◌∷◌, ◌++◌, length, get_or, replicate, sym, refl, ap, ◌∙◌, subst, arith, ne_eqb, length-append}
 use Rattle.std.proofs.lemmas.List.{length-replicate}
 use Rattle.slot_word.specs.Fields.{generation_in, row_in, is_open_word}
@@ -8,15 +8,13 @@ use Rattle.session_world.specs.declared.steps.Step.TheVariants.{Look, LoadKey, D
 use Rattle.session_world.specs.Sizes.{IsWithinLimits}
 use Rattle.session_world.specs.Keys.{put}
 use Rattle.session_world.specs.Words.{slot_at, key_at, row_at, fresh_slots, first_words, word_index, HasRead, words_after}
-use Rattle.session_world.specs.Desk.{generation_of, key_word_of, is_split}
-use Rattle.session_world.specs.Worker.{holds}
+use Rattle.session_world.specs.Desk.{is_split}
 use Rattle.session_world.specs.Allowed.{DeskDid, DeskMay, WorkerMay, IsAllowed}
 use Rattle.session_world.specs.Runs.{CoreState, parts_after, state_after, first_state, own_steps, ScheduledStep, run, Runs}
-use Rattle.session_world.specs.Held.{Held}
 use Rattle.session_world.proofs.BoolFacts.{true_ne_false, both, number_case, put_same, put_other}
 use Rattle.session_world.proofs.DeskFacts.{split_inside}
 use Rattle.session_world.proofs.Fits.{SlotFits, WordsFit, desk_fits, load_fits, announce_fits, draw_fits}
-use Rattle.session_world.proofs.Holding.{Guard, spares, spared, desk_guard, new_guard, own_guard, other_guard}
+use Rattle.session_world.proofs.Holding.{Guard, may_hold, desk_guard, new_guard, own_guard, other_guard}
 
 -- each step of the worker's list was allowed
 abbrev pub WorkerDid : TableSize → List Step → Type 0
@@ -125,8 +123,8 @@ worker_sound z c w s t split may has_read = let g = t.guards w split in record {
   workers = λ u h. put_part c.living_part w u (s ∷ c.living_part (suc w)) (WorkerDid z) (λ _. (t.workers w split, may)) (λ _. t.workers u h);
   words = worker_fits z c.words c.desk (suc w) (c.living_part (suc w)) s t.words g may;
   guards = λ u h. put_part c.living_part w u (s ∷ c.living_part (suc w)) (Guard z (words_after z c.words (suc w) s) c.desk (suc u))
-      (λ e. subst (λ (k : ℕ). Guard z (words_after z c.words (suc w) s) c.desk (suc k) (s ∷ c.living_part (suc w))) (sym e) (own_guard z c.words c.desk (suc w) (c.living_part (suc w)) s t.desk t.words g may has_read))
-      (λ n. other_guard z c.words c.desk (suc w) (suc u) s (c.living_part (suc w)) (c.living_part (suc u)) g may (λ e. n (omega (arith, e))) (t.guards u h));
+      (λ e. subst (λ (k : ℕ). Guard z (words_after z c.words (suc w) s) c.desk (suc k) (s ∷ c.living_part (suc w))) (sym e) (own_guard z c.words c.desk (suc w) (c.living_part (suc w)) s t.desk t.words g (may_hold z (c.living_part (suc w)) s may) has_read))
+      (λ n. other_guard z c.words c.desk (suc w) (suc u) s (c.living_part (suc w)) (c.living_part (suc u)) g (may_hold z (c.living_part (suc w)) s may) (λ e. n (omega (arith, e))) (t.guards u h));
 }
 
 pub step_sound : (z : TableSize) (c : CoreState) (a : ℕ) (s : Step) → IsWithinLimits z → IsSound z c → IsAllowed z a c.desk (own_steps c a) s → HasRead s (get_or c.words (word_index z a s) 0) → IsSound z (state_after z c a s)
@@ -136,17 +134,3 @@ step_sound z c (suc w) s within t may has_read = worker_sound z c w s t may.0 ma
 pub run_sound : (z : TableSize) (ms : List ScheduledStep) → IsWithinLimits z → Runs z ms → IsSound z (run z ms)
 run_sound z [] within r = first_sound z
 run_sound z (m ∷ ms) within r = step_sound z (run z ms) m.actor m.step within (run_sound z ms within r.0) r.1 r.2
-
--- ---- a held slot stays
-
-list_held : (z : TableSize) (c : CoreState) (a : ℕ) (s : Step) (w i : ℕ) → IsSound z c → IsAllowed z a c.desk (own_steps c a) s → is_split c.desk (suc w) ≡ true → holds (c.living_part (suc w)) i ≡ true
-    → (generation_of (state_after z c a s).desk i ≡ generation_of c.desk i) × ((k : ℕ) → key_word_of (state_after z c a s).desk i k ≡ key_word_of c.desk i k)
-list_held z c zero s w i t may split h = let x = spared s c.desk i (spares z c.words c.desk (suc w) (c.living_part (suc w)) i s (t.guards w split) h may) in (x.generation, x.key)
-list_held z c (suc u) s w i t may split h = (refl, λ k. refl)
-
-pub held : Held
-held z m ms w i within r split h =
-    let t = run_sound z ms within r.0 in let t' = run_sound z (m ∷ ms) within r in
-    let inside = ((t.guards w split).held i h).inside in let x = list_held z (run z ms) m.actor m.step w i t r.1 split h in
-    let f = t.words.slots i inside in let f' = t'.words.slots i inside in
-    (f'.generation ∙ (x.0 ∙ sym f.generation), λ k lo hi. t'.words.keys i k inside lo hi ∙ (x.1 k ∙ sym (t.words.keys i k inside lo hi)))

@@ -1,7 +1,9 @@
--- What stays while a worker holds a slot (this project's own).
-use Rattle.std.specs.Prelude.{◌≡◌, ℕ, suc, ◌<◌, true, List, ◌∷◌, slice_index}
+-- What stays while a worker holds a slot, also after it was joined (this project's own). The latest step comes first.
+use Rattle.std.specs.Prelude.{◌≡◌, ℕ, suc, ◌<◌, ◌==◌, true, if◌then◌else◌, List, [], ◌∷◌, ◌++◌, slice_index}
 use Rattle.slot_word.specs.Fields.{generation_in}
 use Rattle.session_world.specs.declared.steps.TableSize.{TableSize}
+use Rattle.session_world.specs.declared.steps.Step.{Step}
+use Rattle.session_world.specs.declared.steps.Part.{Part}
 use Rattle.session_world.specs.Sizes.{IsWithinLimits}
 use Rattle.session_world.specs.Words.{slot_at, key_at}
 use Rattle.session_world.specs.Desk.{is_split}
@@ -11,10 +13,26 @@ use Rattle.session_world.specs.Runs.{CoreState, ScheduledStep, run, Runs}
 abbrev pub word_at : CoreState → ℕ → ℕ
 word_at c p = slice_index c.words p
 
+-- the steps of the worker w in the parts that have ended
+abbrev pub ended_steps : List Part → ℕ → List Step
+ended_steps [] w = []
+ended_steps (p ∷ ps) w = if w == p.worker then p.steps ++ ended_steps ps w else ended_steps ps w
+
+-- its steps in all its parts
+abbrev pub all_steps : CoreState → ℕ → List Step
+all_steps c w = if is_split c.desk w then c.living_part w ++ ended_steps c.ended_parts w else ended_steps c.ended_parts w
+
+-- The worker holds slot i: since it last announced or retired, be it in an earlier part, a look at i found it open
+abbrev pub IsHeldBy : CoreState → ℕ → ℕ → Type 0
+IsHeldBy c w i = holds (all_steps c w) i ≡ true
+
+-- so it does by the part of its list that it is in
+abbrev pub HoldsInPart : Type 0
+HoldsInPart = (c : CoreState) (w i : ℕ) → is_split c.desk w ≡ true → holds (c.living_part w) i ≡ true → IsHeldBy c w i
+
 -- no step of a schedule that runs changes the generation or a key word of a slot that a worker holds
 abbrev pub Held : Type 0
 Held = (z : TableSize) (m : ScheduledStep) (ms : List ScheduledStep) (w i : ℕ)
-    → IsWithinLimits z → Runs z (m ∷ ms)
-    → is_split (run z ms).desk (suc w) ≡ true → holds ((run z ms).living_part (suc w)) i ≡ true
+    → IsWithinLimits z → Runs z (m ∷ ms) → IsHeldBy (run z ms) (suc w) i
     → (generation_in (word_at (run z (m ∷ ms)) (slot_at i)) ≡ generation_in (word_at (run z ms) (slot_at i)))
     × ((k : ℕ) → 0 < k → k < 5 → word_at (run z (m ∷ ms)) (key_at i k) ≡ word_at (run z ms) (key_at i k))

@@ -9,12 +9,11 @@ use Rattle.session_world.specs.Sizes.{IsWithinLimits}
 use Rattle.session_world.specs.Keys.{Query, Key, Extra, ConfigParts}
 use Rattle.session_world.specs.Words.{slot_at, announced_at}
 use Rattle.session_world.specs.Desk.{is_split, scanned_since}
-use Rattle.session_world.specs.Worker.{holds}
 use Rattle.session_world.specs.Answers.{opened, expired, missed, desk_gives, desk_answers, answers_at_split, worker_answers}
 use Rattle.session_world.specs.Runs.{ScheduledStep, run, Runs}
 use Rattle.session_world.specs.History.{Event}
 use Rattle.session_world.specs.Explains.{Explains}
-use Rattle.session_world.specs.Held.{word_at}
+use Rattle.session_world.specs.Held.{word_at, IsHeldBy}
 
 -- A worker changes a slot word by a draw alone, which adds to the very word that it read. So a draw by a load and a later store
 -- runs in no schedule
@@ -36,11 +35,11 @@ TakesSlot (ReserveNew slot row) i = i ≡ slot
 TakesSlot (ReserveUsed slot generation row) i = i ≡ slot
 TakesSlot _ i = ⊥
 
--- and neither it nor a key word of it is written while a worker holds the slot
+-- and neither it nor a key word of it is written while a worker holds the slot, also after the worker was joined
 abbrev pub HeldIsNotTaken : Type 0
 HeldIsNotTaken = (z : TableSize) (s : Step) (ms : List ScheduledStep) (w i : ℕ)
     → IsWithinLimits z → Runs z (record { actor = 0; step = s } ∷ ms)
-    → is_split (run z ms).desk (suc w) ≡ true → holds ((run z ms).living_part (suc w)) i ≡ true → ¬ TakesSlot s i
+    → IsHeldBy (run z ms) (suc w) i → ¬ TakesSlot s i
 
 -- a worker looks only at a slot that its announcement word names at that moment
 abbrev pub LooksAreAnnounced : Type 0

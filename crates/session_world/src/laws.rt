@@ -1,6 +1,6 @@
 //! The laws over all schedules. Each holds by the definitions of `specs/` alone, and costs nothing when it is called.
 ghost use Rattle.session_world.specs.Explains.{Explained};
-ghost use Rattle.session_world.specs.Held.{Held};
+ghost use Rattle.session_world.specs.Held.{Held, HoldsInPart};
 ghost use Rattle.session_world.specs.History.{DrawsCount, OneMatch};
 ghost use Rattle.session_world.specs.Joined.{JoinedHistory};
 ghost use Rattle.session_world.specs.Loads.{LoadedWords};
@@ -32,9 +32,11 @@ pub fn law_one_match()
     ensures { OneMatch }
 {}
 
-/// While a worker holds a slot, its generation and its key words stay.
+/// While a worker holds a slot, also after it was joined, the slot's generation and its key words stay. It holds what it
+/// holds by the part of its list that it is in.
 pub fn law_held()
-    ensures { Held }
+    ensures stays { Held }
+    ensures part { HoldsInPart }
 {}
 
 /// The key words that a worker reads while it holds a slot are those of a sound key and extra; each open word names a
