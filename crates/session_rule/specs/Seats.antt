@@ -1,11 +1,10 @@
 -- What the public calls say of the table and of seats.
-use Rattle.std.specs.Prelude.{◌≡◌, ℕ, ◌<◌, ◌≤◌, ◌^◌, true, List, [], ◌∷◌}
+use Rattle.std.specs.Prelude.{◌≡◌, ℕ, ◌<◌, ◌≤◌, ◌^◌, List, [], ◌∷◌}
 use Rattle.session_world.specs.declared.steps.TableSize.{TableSize}
 use Rattle.session_world.specs.declared.steps.Step.{Step}
 use Rattle.session_world.specs.declared.steps.Step.TheVariants.{Split, Join}
 use Rattle.session_world.specs.declared.steps.Part.{Part}
 use Rattle.session_world.specs.Sizes.{IsWithinLimits}
-use Rattle.session_world.specs.Desk.{is_split}
 use Rattle.session_world.specs.Allowed.{WorkerMay, DeskMay}
 use Rattle.session_world.specs.Runs.{ended_part}
 pub use Rattle.session_world.specs.Runs.{IsDeskOfOneSchedule, IsWorkerOfOneSchedule}

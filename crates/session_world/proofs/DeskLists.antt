@@ -1,5 +1,5 @@
 -- What an allowed list of the desk says of slots and rows.
-use Rattle.std.proofs.Common.{◌≡◌, inl, inr, ◌∷◌, subst}
+use Rattle.std.proofs.Common.{inl, inr, subst}
 use Rattle.session_world.specs.Allowed.{DeskDid}
 use Rattle.session_world.specs.DeskLists.{DeskIsAllowed, SlotsAreSound, StepsKeepRows}
 use Rattle.session_world.proofs.DeskFacts.{run_did, reserved_used, open_used, generation_low, reserved_closed, reserved_inside, open_inside, split_inside, complete_low, row_complete, still_complete, complete_config}

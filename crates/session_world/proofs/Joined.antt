@@ -11,7 +11,6 @@ use Rattle.session_world.specs.Keys.{ConfigParts}
 use Rattle.session_world.specs.Desk.{is_split, config_at}
 use Rattle.session_world.specs.Answers.{Answer, opened, configured, counted, closed, expired, seen, drew, missed, late, with_configs, desk_gives, desk_answers, worker_answers}
 use Rattle.session_world.specs.Loads.{PartWords, AllPartWords}
-use Rattle.session_world.specs.Rows.{ReadsRows}
 use Rattle.session_world.specs.Runs.{CoreState, ScheduledStep, run, Runs}
 use Rattle.session_world.specs.History.{Event}
 use Rattle.session_world.specs.Explains.{Span, ended_span, ended_spans, living_span, spans_of, answers_of_spans, answers_in, desk_events_before, IsInSpans, Explains}

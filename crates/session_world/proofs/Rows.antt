@@ -1,5 +1,5 @@
 -- Complete rows stay, and workers read them as they were written.
-use Rattle.std.proofs.Common.{◌≡◌, ◌≢◌, ℕ, zero, suc, ◌<◌, true, List, [], ◌∷◌, ◌++◌, sym, refl, ap, ◌∙◌, subst, arith, ne_eqb, length, Bool, ◌&&◌, ◌==◌, if◌then◌else◌}
+use Rattle.std.proofs.Common.{◌≡◌, ◌≢◌, ℕ, zero, suc, ◌<◌, true, List, [], ◌∷◌, ◌++◌, sym, refl, ap, ◌∙◌, subst, arith, ne_eqb, Bool, ◌&&◌, ◌==◌, if◌then◌else◌}
 use Rattle.session_world.specs.declared.steps.TableSize.{TableSize}
 use Rattle.session_world.specs.declared.steps.Step.{Step}
 use Rattle.session_world.specs.declared.steps.Step.TheVariants.{WriteRow}
@@ -8,7 +8,7 @@ use Rattle.session_world.specs.Desk.{is_split, row_word_of, config_at, IsComplet
 use Rattle.session_world.specs.Allowed.{DeskMay, DeskDid}
 use Rattle.session_world.specs.Loads.{WorkerWords, PartWords}
 use Rattle.session_world.specs.Runs.{ScheduledStep, run, Runs}
-use Rattle.session_world.specs.Rows.{RowsStay, ReadsRows, HasReadRows, WorkersReadRows, LoadsFixRows}
+use Rattle.session_world.specs.Rows.{RowsStay, ReadsRows, WorkersReadRows, LoadsFixRows}
 use Rattle.session_world.proofs.DeskFacts.{run_did, split_inside, still_complete}
 use Rattle.session_world.proofs.ReadWords.{loaded_words}
 use Rattle.session_world.proofs.RowsRead.{loads_config}

@@ -7,12 +7,12 @@ use Rattle.session_world.specs.declared.steps.Part.{Part}
 use Rattle.session_world.specs.declared.steps.Step.TheVariants.{Look, LoadKey, Draw, LoadRow, Announce, Retire}
 use Rattle.session_world.specs.Keys.{key_of, extra_of, config_of}
 use Rattle.session_world.specs.Desk.{row_word_of}
-use Rattle.session_world.specs.Worker.{LastLook, names_row, has_key_words, key_matches, after_look, takes_key, with_key_word, after_key, after_hold, last_look}
+use Rattle.session_world.specs.Worker.{LastLook, has_key_words, key_matches, after_look, takes_key, with_key_word, after_key, after_hold, last_look}
 use Rattle.session_world.specs.Answers.{Answer, seen, drew, missed, late, is_miss, words_give, completes_key, draw_answer, step_gives, worker_answers}
 use Rattle.session_world.specs.Loads.{RowLoadsAre, names_open, AllPartWords, HasLoaded, HasLoadedRow}
 use Rattle.session_world.specs.OneThread.{after_turn, turn_part}
 use Rattle.session_world.specs.RowsRead.{AnswersRow, AnswersName, RowsTell}
-use Rattle.session_world.proofs.BoolFacts.{both, either_of, and_i, or_l, or_r}
+use Rattle.session_world.proofs.BoolFacts.{both, and_i, or_l, or_r}
 use Rattle.session_world.proofs.ReadWords.{open_is_named, loaded_words}
 
 -- ---- the last look, where it found an open word

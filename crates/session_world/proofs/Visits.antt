@@ -6,7 +6,7 @@ use Rattle.session_key.specs.Words.{key_of_words, extra_of_words}
 use Rattle.session_world.specs.declared.steps.Step.{Step}
 use Rattle.session_world.specs.declared.steps.Step.TheVariants.{Look, LoadKey, Draw, Announce, Retire}
 use Rattle.session_world.specs.Keys.{Query, key_of, extra_of, same_number, same_query}
-use Rattle.session_world.specs.Worker.{LastLook, has_key_words, key_matches, is_passed, continues_walk, number_of, after_look, takes_key, with_key_word, after_key, after_hold, last_look}
+use Rattle.session_world.specs.Worker.{LastLook, has_key_words, key_matches, is_passed, continues_walk, number_of, takes_key, with_key_word, after_key, after_hold, last_look}
 use Rattle.session_world.specs.Answers.{Answer, missed, is_miss, look_gives, words_give, completes_key, key_gives, worker_answers}
 use Rattle.session_world.specs.Loads.{key_loads, KeyLoadsAre}
 use Rattle.session_world.specs.Visits.{look_steps, look_made, with_key_words, VisitsTell}

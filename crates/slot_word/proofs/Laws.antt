@@ -3,7 +3,7 @@ use Rattle.std.proofs.Common.{◌≡◌, ℕ, zero, suc, ◌+◌, ◌-◌, ◌*�
 use Rattle.std.specs.Int.Bits.{bit_and, bit_or, bit_xor, or_zero_r, xor_zero_r, xor_zero_l, xor_self, xor_assoc}
 use Rattle.std.proofs.lemmas.Nat.{or_block, xor_block, xor_lt}
 use Rattle.std.proofs.lemmas.Nat.Bits.{and_high_mask}
-use Rattle.slot_word.specs.Fields.{sequence_unit, generation_unit, row_unit, closed_bit, greatest_generation, greatest_row, sequence_in, generation_in, row_in, is_open_word, word_of}
+use Rattle.slot_word.specs.Fields.{sequence_unit, row_unit, closed_bit, greatest_generation, greatest_row, sequence_in, generation_in, row_in, is_open_word, word_of}
 pub use Rattle.slot_word.specs.Fields.{HasFields, Drawn, Keeps, Exchanged}
 
 -- ---- ranges
