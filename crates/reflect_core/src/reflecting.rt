@@ -12,7 +12,7 @@ use crate::tails::write_tail_after;
 use hmac_sha256::KeyedHash;
 use refl_types::{Config, Endpoint, Extra, Key, Meta, Mode};
 use stamp_auth::{auth_sender, write_auth_by};
-use stamp_packet::{read_plain, write_plain};
+use stamp_packet::{read_plain, write_plain_to};
 use twamp_test::{read_test, write_test};
 
 /// Octets of an unauthenticated base packet (RFC 8762, section 4.2.1).
@@ -65,7 +65,7 @@ fn reflect_plain(
 {
     let sender = read_plain(input).unwrap();
     let base = reply_base(config.as_parts(), n, meta, t3, &sender);
-    write_plain(&base, out);
+    write_plain_to(&base, input, out);
     write_tail_after(
         Mode::Plain,
         config,
@@ -136,7 +136,7 @@ fn reflect_auth_session(
 }
 
 /// Writes the reply of a TWAMP-Test session.
-#[inline(never)]
+#[inline(always)]
 fn reflect_test(
     extra: &Extra,
     config: &Config,

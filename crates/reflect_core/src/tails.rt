@@ -87,12 +87,10 @@ fn process(config: &Config, n: u32, tail: &[u8], out: &mut [u8])
     ensures { out.new ≡ processed_reply config.now n (split tail.now) }
 {
     let facts = ReplyFacts { n };
+    put_last(tail, 0, out);
     let mut walk = Walk::new(tail);
     while let Some(span) = walk.next() {
         if let Acted::Malformed = act(config, &facts, tail, &span, out) {
-            let at = walk.rest();
-            let (_, later) = tail.split_at(at);
-            put_last(later, at, out);
             return;
         }
     }

@@ -81,7 +81,12 @@ fn place_of(list: &[Session], meta: &Meta, octets: &[u8]) -> Option<usize>
     ensures { result ≡ position (λ s. matches (query_of meta.now.local meta.now.peer octets.now) s.key) list.now }
 {
     let query = Query::of(meta, octets);
-    list.iter().position(|session| query.matches(&session.key))
+    for place in 0..list.len() {
+        if query.matches(&list[place].key) {
+            return Some(place);
+        }
+    }
+    None
 }
 
 /// The code of an opening, by what is known of its key.
@@ -220,6 +225,18 @@ impl Sessions {
         arrive(&mut self.list, meta, t3, octets, out)
     }
 
+    /// The same, out of line.
+    #[inline(never)]
+    pub fn arrive_apart(&mut self, meta: &Meta, t3: u64, octets: &[u8], out: &mut [u8]) -> usize
+        requires room { ANSWER_ROOM ≤ length out.old }
+        requires measured { meta.now.len ≡ length octets.now }
+        requires limit { length octets.now ≤ 65507 }
+        ensures answered { (t : Table) → Stands self.old t → IsAnswered t self.new (Arrives (datagram_of meta.now t3 octets.now)) out.old out.new result }
+        ensures fits { result ≤ 65538 }
+    {
+        arrive(&mut self.list, meta, t3, octets, out)
+    }
+
     /// Writes the answer to a record at the front, says how many octets it has, and keeps the table that the record
     /// leaves. Later octets stay.
     pub fn answer(&mut self, item: &Record, out: &mut [u8]) -> usize
@@ -231,7 +248,7 @@ impl Sessions {
     {
         match item {
             Record::Open { key, extra, config } => open(&mut self.list, key, extra, config, out),
-            Record::Datagram { meta, t3, octets } => { self.arrive(meta, *t3, octets, out) }
+            Record::Datagram { meta, t3, octets } => { self.arrive_apart(meta, *t3, octets, out) }
         }
     }
 }

@@ -44,6 +44,10 @@ measured n sent = sent ++ to_be_bytes w32 ((n + 1) % 2 ^ 32) ++ to_be_bytes w32 
 pub record WritesTlv (old : List ℕ) (span : Span) (t : Tlv) (new : List ℕ) : Type 0 where
   pub octets : new ≡ take span.at old ++ tlv_octets t ++ drop (span.at + 4 + span.len) old
 
+-- the octets of a TLV stand at a span
+pub record HoldsTlv (octets : List ℕ) (span : Span) (t : Tlv) : Type 0 where
+  pub holds : drop span.at octets ≡ tlv_octets t ++ drop (span.at + 4 + span.len) octets
+
 -- the TLV of a value at a span
 abbrev pub tlv_of : Span → List ℕ → Tlv
 tlv_of span value = record { flags = span.flags; kind = span.kind; value = value }

@@ -13,6 +13,7 @@ use Rattle.replay_table.specs.Reflection.{sending}
 use Rattle.replay_table.specs.Stands.{StandsFor}
 use Rattle.replay_table.proofs.TableFacts.{some_session, no_place, stands-none, stands-at, raised-count, keyed-at, keyed-set, hashed, judged-same, same-at}
 use Rattle.replay_table.proofs.AnswerFacts.{answered, no_session, silent, reflected}
+use Rattle.replay_table.proofs.EndFacts.{ends_same}
 use Rattle.replay_table.proofs.sessions.arrive.Goals as goal
 
 pub returns-in_default-clause-answered : goal.returns-in_default-clause-answered
@@ -40,6 +41,20 @@ write_reflection-len-requires-clause-reflected c =
       judged = sym c.judge_by.ensures ∙ c.in-Reflect.is;
       limit = c.requires.limit;
     }
+
+pub write_reflection-len-requires-clause-local : goal.write_reflection-len-requires-clause-local
+write_reflection-len-requires-clause-local c =
+    let m = c.args.meta.now in
+    let q : Query = query_of m.local m.peer c.args.octets.now in
+    let p = position-Some (λ (s : Session). matches q s.key) c.args.list.now c.in-Some.place c.index-list-place.result (sym c.in-Some.ensures) in
+    (ends_same m.local m.peer c.args.octets.now _ p.1).0
+
+pub write_reflection-len-requires-clause-peer : goal.write_reflection-len-requires-clause-peer
+write_reflection-len-requires-clause-peer c =
+    let m = c.args.meta.now in
+    let q : Query = query_of m.local m.peer c.args.octets.now in
+    let p = position-Some (λ (s : Session). matches q s.key) c.args.list.now c.in-Some.place c.index-list-place.result (sym c.in-Some.ensures) in
+    (ends_same m.local m.peer c.args.octets.now _ p.1).1
 
 pub returns-in-Silent-Short-clause-answered : goal.returns-in-Silent-Short-clause-answered
 returns-in-Silent-Short-clause-answered c = λ t st.
