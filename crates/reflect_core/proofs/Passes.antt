@@ -10,6 +10,7 @@ use Rattle.tlv_chain.specs.Split.{Split, split, add_first}
 use Rattle.tlv_chain.specs.Walking.{Walking, IsAtRest, WentPast, tlv_at}
 use Rattle.tlv_chain.proofs.SplitFacts.{split_is}
 use Rattle.tlv_chain.proofs.Walks.{step_of, rest_of, past}
+use Rattle.tlv_actions.specs.declared.reply.ReplyFacts.{ReplyFacts}
 use Rattle.tlv_actions.specs.declared.reply.Acted.{Acted}
 use Rattle.tlv_actions.specs.declared.reply.Acted.TheVariants.{Done, Malformed}
 use Rattle.tlv_actions.specs.Rows.{WritesTlv, HoldsTlv, reply_tlv, is_malformed, acted_on}
@@ -80,11 +81,11 @@ stopped whole tail old s new out out' out'' t bytes way went writes same next e 
 pub flags_first : (tail : List ℕ) (s : Span) (rest : Split) → failed_reply (add_first (tlv_at tail s) rest) ≡ tlv_octets (flagged (tlv_at tail s)) ++ failed_reply rest
 flags_first tail s rest = append_assoc (tlv_octets (flagged (tlv_at tail s))) _ _
 
-pub processes_first : (c : ConfigParts) (n : ℕ) (t : Tlv) (rest : Split) → is_malformed c t ≡ false → processed_reply c n (add_first t rest) ≡ tlv_octets (reply_tlv c n t) ++ processed_reply c n rest
-processes_first c n t rest e = rw e refl
+pub processes_first : (c : ConfigParts) (facts : ReplyFacts) (t : Tlv) (rest : Split) → is_malformed c t ≡ false → processed_reply c facts (add_first t rest) ≡ tlv_octets (reply_tlv c facts t) ++ processed_reply c facts rest
+processes_first c facts t rest e = rw e refl
 
-pub stops_first : (c : ConfigParts) (n : ℕ) (t : Tlv) (rest : Split) → is_malformed c t ≡ true → processed_reply c n (add_first t rest) ≡ tlv_octets (reply_tlv c n t) ++ (tlvs_octets rest.tlvs ++ rest.rest)
-stops_first c n t rest e = rw e refl
+pub stops_first : (c : ConfigParts) (facts : ReplyFacts) (t : Tlv) (rest : Split) → is_malformed c t ≡ true → processed_reply c facts (add_first t rest) ≡ tlv_octets (reply_tlv c facts t) ++ (tlvs_octets rest.tlvs ++ rest.rest)
+stops_first c facts t rest e = rw e refl
 
 malformed_if : (b : Bool) → (if b then Malformed else Done) ≡ Malformed → b ≡ true
 malformed_if true e = refl

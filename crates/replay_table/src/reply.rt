@@ -7,7 +7,7 @@ ghost use Rattle.replay_table.specs.Stands.{IsReflected, IsSent};
 use crate::session::Session;
 use crate::sessions::ANSWER_ROOM;
 use refl_types::{Meta, Mode};
-use reflect_core::reflect_by;
+use reflect_core::{Datagram, Draw};
 use replay_format::{REPLY_AT, frame_reply};
 
 /// Writes the answer to a datagram that is reflected, reply included, and says how many octets it has.
@@ -18,17 +18,14 @@ fn write_here(session: &Session, meta: &Meta, t3: u64, octets: &[u8], out: &mut 
     requires room { ANSWER_ROOM ≤ length out.old }
     ensures { IsSent session.now (datagram_of meta.now t3 octets.now) out.old out.new result }
 {
-    let reply = reflect_by(
-        &session.key,
-        &session.extra,
-        &session.config,
-        &session.hash,
-        session.count,
-        meta,
-        t3,
-        octets,
-        &mut out[REPLY_AT..],
-    );
+    let datagram = Datagram { meta, octets };
+    let draw = Draw {
+        number: session.count,
+        sending: t3,
+    };
+    let reply = session
+        .reflector()
+        .reflect(&datagram, &draw, &mut out[REPLY_AT..]);
     frame_reply(reply.from, &reply.to, session.count, reply.len, out);
     REPLY_AT + reply.len
 }

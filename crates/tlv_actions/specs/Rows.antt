@@ -5,6 +5,7 @@ use Rattle.std.specs.Int.{w32, to_be_bytes}
 use Rattle.refl_types.specs.declared.config.ConfigParts.{ConfigParts}
 use Rattle.tlv_chain.specs.declared.span.Span.{Span}
 use Rattle.tlv_chain.specs.Tlv.{Tlv, tlv_octets, unrecognized, malformed}
+use Rattle.tlv_actions.specs.declared.reply.ReplyFacts.{ReplyFacts}
 use Rattle.tlv_actions.specs.declared.reply.Acted.{Acted}
 use Rattle.tlv_actions.specs.declared.reply.Acted.TheVariants.{Done, Malformed}
 
@@ -52,20 +53,20 @@ pub record HoldsTlv (octets : List ℕ) (span : Span) (t : Tlv) : Type 0 where
 abbrev pub tlv_of : Span → List ℕ → Tlv
 tlv_of span value = record { flags = span.flags; kind = span.kind; value = value }
 
-abbrev pub reply_value : ConfigParts → ℕ → Tlv → List ℕ
-reply_value c n t =
+abbrev pub reply_value : ConfigParts → ReplyFacts → Tlv → List ℕ
+reply_value c facts t =
     if t.kind == timestamp_information then c.info
-    else (if t.kind == direct_measurement then measured n (take 4 t.value)
+    else (if t.kind == direct_measurement then measured facts.n (take 4 t.value)
     else t.value)
 
 unfoldable pub is_malformed : ConfigParts → Tlv → Bool
 is_malformed c t = is_understood c t.kind && not (has_valid_length t.kind (length t.value))
 
-unfoldable pub reply_tlv : ConfigParts → ℕ → Tlv → Tlv
-reply_tlv c n t =
+unfoldable pub reply_tlv : ConfigParts → ReplyFacts → Tlv → Tlv
+reply_tlv c facts t =
     if not (is_understood c t.kind) then record t { flags = unrecognized }
     else (if not (has_valid_length t.kind (length t.value)) then record t { flags = malformed }
-    else record { flags = 0; kind = t.kind; value = reply_value c n t })
+    else record { flags = 0; kind = t.kind; value = reply_value c facts t })
 
 abbrev pub acted_on : ConfigParts → Tlv → Acted
 acted_on c t = if is_malformed c t then Malformed else Done

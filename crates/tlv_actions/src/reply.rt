@@ -60,11 +60,17 @@ fn write_flags(span: &Span, flags: u8, value: &[u8], out: &mut [u8])
 
 /// Writes what the reply has for the TLV of a value that stands at a span.
 #[inline]
-fn answer(parts: &ConfigParts, n: u32, span: &Span, value: &[u8], out: &mut [u8]) -> Acted
+fn answer(
+    parts: &ConfigParts,
+    facts: &ReplyFacts,
+    span: &Span,
+    value: &[u8],
+    out: &mut [u8],
+) -> Acted
     requires len { length value.now ≡ span.now.len }
     requires room { span.now.at + 4 + span.now.len ≤ length out.old }
     requires holds { HoldsTlv out.old span.now (tlv_of span.now value.now) }
-    ensures octets { WritesTlv out.old span.now (reply_tlv parts.now n (tlv_of span.now value.now)) out.new }
+    ensures octets { WritesTlv out.old span.now (reply_tlv parts.now facts.now (tlv_of span.now value.now)) out.new }
     ensures acted { result ≡ acted_on parts.now (tlv_of span.now value.now) }
 {
     if !is_understood(parts, span.kind) {
@@ -77,7 +83,7 @@ fn answer(parts: &ConfigParts, n: u32, span: &Span, value: &[u8], out: &mut [u8]
     }
     match span.kind {
         TIMESTAMP_INFORMATION => write(span, 0, &parts.info, out),
-        DIRECT_MEASUREMENT => write(span, 0, &measured(n, &field4(value, 0)), out),
+        DIRECT_MEASUREMENT => write(span, 0, &measured(facts.n, &field4(value, 0)), out),
         _ => write_flags(span, 0, value, out),
     }
     Acted::Done
@@ -95,17 +101,17 @@ pub fn copy_tlv(tail: &[u8], span: &Span, flags: u8, out: &mut [u8])
     write(span, flags, value, out);
 }
 
-/// Writes what the reply has for the TLV of a tail that stands at a span, and no other octet. Of an HMAC TLV it writes flags 0 and
-/// all else as received.
+/// Writes what the reply has for the TLV of a tail that stands at a span, and no other octet. Of an HMAC TLV it writes
+/// flags 0 and all else as received.
 #[inline]
 pub fn act(config: &Config, facts: &ReplyFacts, tail: &[u8], span: &Span, out: &mut [u8]) -> Acted
     requires whole { span.now.at + 4 + span.now.len ≤ length tail.now }
     requires room { length out.old ≡ length tail.now }
     requires holds { HoldsTlv out.old span.now (tlv_at tail.now span.now) }
-    ensures octets { WritesTlv out.old span.now (reply_tlv config.now facts.now.n (tlv_at tail.now span.now)) out.new }
+    ensures octets { WritesTlv out.old span.now (reply_tlv config.now facts.now (tlv_at tail.now span.now)) out.new }
     ensures acted { result ≡ acted_on config.now (tlv_at tail.now span.now) }
 {
     let (_, from_value) = tail.split_at(span.at + HEADER_LEN);
     let (value, _) = from_value.split_at(usize::from(span.len));
-    answer(config.as_parts(), facts.n, span, value, out)
+    answer(config.as_parts(), facts, span, value, out)
 }
