@@ -18,8 +18,8 @@ use keyed_config::KeyedConfig;
 use refl_types::{Config, Extra, Key, Memory, Meta, Mode, Silent};
 use reflect_core::Judged;
 use replay_format::{
-    BAD_HMAC, DUPLICATE, FULL, MODE_CLASH, NO_KEY, NO_SESSION, OPENED, Outcome, Record, SHORT,
-    write_outcome,
+    BAD_HMAC, DUPLICATE, FULL, MODE_CLASH, NO_KEY, NO_REPLY, NO_SESSION, OPENED, Outcome, Record,
+    SHORT, write_outcome,
 };
 use session_key::Query;
 use std::alloc::Global;
@@ -160,6 +160,7 @@ fn arrive(list: &mut [Session], meta: &Meta, t3: u64, octets: &[u8], out: &mut [
     match session.reflector().judge(octets) {
         Judged::Silent(Silent::Short) => write_unsent(SHORT, out),
         Judged::Silent(Silent::BadHmac) => write_unsent(BAD_HMAC, out),
+        Judged::Silent(Silent::NoReply) => write_unsent(NO_REPLY, out),
         Judged::Reflect => {
             let len = write_reflection(session, meta, t3, octets, out);
             let session = &mut list[place];

@@ -1,6 +1,6 @@
 use Rattle.std.proofs.Common.{◌≡◌, ◌+◌, ◌%◌, ◌^◌, get_or, refl, sym, ap, subst, ◌∙◌}
 use Rattle.std.proofs.lemmas.List.Quantifiers.{position-Some}
-use Rattle.refl_types.specs.declared.outcome.Silent.TheVariants.{Short, BadHmac}
+use Rattle.refl_types.specs.declared.outcome.Silent.TheVariants.{Short, BadHmac, NoReply}
 use Rattle.session_key.specs.declared.matching.Query.{Query}
 use Rattle.session_key.specs.Matching.{query_of, matches}
 use Rattle.reflect_core.specs.declared.judging.Judged.TheVariants.{Reflect, Silent}
@@ -75,6 +75,19 @@ returns-in-Silent-BadHmac-clause-answered c = λ t st.
     let l = silent t d at.0 BadHmac at.1.found was in
     let w = c.write_unsent-in-Silent-BadHmac in
     answered t t c.args.list.now (Arrives d) (Unsent 3) c.args.out.now w.new.out w.result l.0 l.1 st w.ensures.octets w.ensures.len
+
+pub returns-in-Silent-NoReply-clause-answered : goal.returns-in-Silent-NoReply-clause-answered
+returns-in-Silent-NoReply-clause-answered c = λ t st.
+    let m = c.args.meta.now in
+    let q : Query = query_of m.local m.peer c.args.octets.now in
+    let d : Datagram = datagram_of m c.args.t3 c.args.octets.now in
+    let s = c.index-list-place.result in
+    let p = position-Some (λ (r : Session). matches q r.key) c.args.list.now c.in-Some.place s (sym c.in-Some.ensures) in
+    let at = stands-at q c.args.list.now t c.in-Some.place s st p.0 p.1 p.2 in
+    let was : judgement at.0.key.mode at.0.config d.octets ≡ Silent NoReply = judged-same _ at.0 d.octets at.1.stands ∙ sym (c.judge.ensures ∙ lent_judgement c.reflector.result.key.now (get_or c.args.list.now c.in-Some.place s).key c.reflector.result.config.now (get_or c.args.list.now c.in-Some.place s).config d.octets c.reflector.ensures.key c.reflector.ensures.config) ∙ c.in-Silent-NoReply.is ∙ ap (λ x. Silent x) c.in-Silent-NoReply.field-0-is in
+    let l = silent t d at.0 NoReply at.1.found was in
+    let w = c.write_unsent-in-Silent-NoReply in
+    answered t t c.args.list.now (Arrives d) (Unsent 7) c.args.out.now w.new.out w.result l.0 l.1 st w.ensures.octets w.ensures.len
 
 pub returns-in-Reflect-clause-answered : goal.returns-in-Reflect-clause-answered
 returns-in-Reflect-clause-answered c = λ t st.
