@@ -1,6 +1,6 @@
 -- Configurations in words and back.
 use Rattle.std.proofs.Common.{◌≡◌, ℕ, zero, suc, ◌+◌, ◌*◌, ◌/◌, ◌%◌, ◌^◌, ◌<◌, ◌≤◌, ◌==◌, Bool, true, false, List, [], ◌∷◌, ◌++◌, length, take, drop, get_or, Option, Some, None, Ok, refl, sym, ap, subst, ◌∙◌, arith, eqb, ltb, replicate, ne_eqb}
-use Rattle.std.proofs.lemmas.Bool.{eqb-true, le-ltb}
+use Rattle.std.proofs.lemmas.Bool.{le-ltb}
 use Rattle.std.specs.Int.{w32, w64, from_be_bytes, to_be_bytes}
 use Rattle.std.proofs.lemmas.List.{take-append-drop, length-take, length-drop, take_all, drop-drop}
 use Rattle.std.proofs.lemmas.Nat.{be_bytes_4, be_bytes_8}
@@ -134,8 +134,7 @@ unfolding row_words
 row_words_range c f =
     let head : head_word c < 2 ^ 64 = omega (arith, flag_range c.stateful, flag_range (is_ptp c.clock), flag_range (has c.key), flag_range c.synced, f.offset, f.multiplier, f.is_config.scale) in
     let info : from_be_bytes w32 c.info < 2 ^ 64 = omega (arith, f.info.1 0, f.info.1 1, f.info.1 2, f.info.1 3) in
-    let known = eqb-true c.tlvs (c.tlvs / 8 % 2 * 8 + c.tlvs / 32 % 2 * 32) f.is_config.tlvs in
-    in_range_more 11 _ _ head (in_range_more 10 _ _ info (in_range_more 9 _ _ (omega (arith, known)) (in_range_more 8 0 _ (omega arith) (words_of_range 8 (block_octets c.key) (block_bytes c.key f.block)))))
+    in_range_more 11 _ _ head (in_range_more 10 _ _ info (in_range_more 9 _ _ (omega (arith, f.tlvs)) (in_range_more 8 0 _ (omega arith) (words_of_range 8 (block_octets c.key) (block_bytes c.key f.block)))))
 
 -- what the second and the third word of a configuration are
 pub record Numbers (words : List ℕ) : Type 0 where
@@ -146,8 +145,7 @@ pub record Numbers (words : List ℕ) : Type 0 where
 numbers_of : (c : ConfigParts) → FitsConfig c → Numbers (row_words c)
 unfolding row_words words_of
 numbers_of c f =
-    let known = eqb-true c.tlvs (c.tlvs / 8 % 2 * 8 + c.tlvs / 32 % 2 * 32) f.is_config.tlvs in
-    record { info = omega (arith, f.info.1 0, f.info.1 1, f.info.1 2, f.info.1 3); tlvs = omega (arith, known); len = refl }
+    record { info = omega (arith, f.info.1 0, f.info.1 1, f.info.1 2, f.info.1 3); tlvs = f.tlvs; len = refl }
 
 pub numbers : (words : List ℕ) → AreConfigWords words → Numbers words
 unfolding AreConfigWords

@@ -1,6 +1,6 @@
 //! A configuration in twelve words.
 
-ghost use Rattle.std.specs.Prelude.{◌≡◌, ◌+◌, ◌<◌, ◌≤◌, length, take, drop};
+ghost use Rattle.std.specs.Prelude.{◌≡◌, ◌+◌, ◌^◌, ◌<◌, ◌≤◌, length, take, drop};
 ghost use Rattle.std.specs.Int.{w64, from_be_bytes};
 ghost use Rattle.octet_format.specs.Octets.{IsArray, IsBytes};
 ghost use Rattle.refl_types.specs.Spelling.{config_flags, block_octets, FitsBlock, FitsConfig};
@@ -43,6 +43,10 @@ fn octet_fits(octet: u8)
     ensures { octet < 256 }
 {}
 
+fn number_fits(number: u32)
+    ensures { number < 2 ^ 32 }
+{}
+
 fn octets_fit(octets: &[u8])
     ensures { IsBytes octets.now }
 {}
@@ -75,6 +79,7 @@ fn fits(config: &Config)
     octet_fits(parts.offset);
     octet_fits(parts.multiplier);
     info_fits(&parts.info);
+    number_fits(parts.tlvs);
     key_fits(&parts.key);
 }
 

@@ -1,5 +1,5 @@
 -- HMAC with SHA-256 (RFC 2104).
-use Rattle.std.specs.Prelude.{◌≡◌, Option, Some, None, ℕ, ◌-◌, List, ◌++◌, length, take, replicate, map, bit_xor, nat_lt, if◌then◌else◌}
+use Rattle.std.specs.Prelude.{ℕ, ◌-◌, List, ◌++◌, length, take, replicate, map, bit_xor, nat_lt, if◌then◌else◌}
 use Rattle.sha2.specs.Sha256.{sha256}
 
 -- a key of at most 64 octets, filled with zeros
@@ -20,8 +20,3 @@ hmac block text = sha256 (pad 0x5C block ++ sha256 (pad 0x36 block ++ text))
 -- its leftmost 128 bits (RFC 2104, section 5; RFC 8762, section 4.4)
 unfoldable pub mac128_of : List ℕ → List ℕ → List ℕ
 mac128_of block text = take 16 (hmac block text)
-
--- a key whose blocks are hashed already is this key, where there is one
-abbrev pub IsHashOf : Option (List ℕ) → Option (List ℕ) → Type 0
-IsHashOf None key = Unit {0}
-IsHashOf (Some hashed) key = key ≡ Some hashed

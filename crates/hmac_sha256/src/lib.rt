@@ -1,8 +1,8 @@
 //! HMAC with SHA-256, cut to 128 bits (RFC 2104, sections 2 and 5; RFC 8762, section 4.4).
 #![tactic(auto)]
 
-ghost use Rattle.std.specs.Prelude.{◌≡◌, ◌≤◌, ◌++◌, Some, length, take};
-ghost use Rattle.hmac_sha256.specs.Hmac.{block_of, filled, pad, mac128_of, IsHashOf};
+ghost use Rattle.std.specs.Prelude.{◌≡◌, ◌≤◌, ◌++◌, length, take};
+ghost use Rattle.hmac_sha256.specs.Hmac.{block_of, filled, pad, mac128_of};
 
 use octet_format::put;
 use sha2::{Digest, Sha256};
@@ -122,23 +122,6 @@ pub fn mac128(block: &[u8; 64], first: &[u8], second: &[u8]) -> [u8; 16]
     ensures { result ≡ mac128_of block.now (first.now ++ second.now) }
 {
     KeyedHash::of(block).mac128(first, second)
-}
-
-/// The same under a key in its block form that may be hashed already.
-#[inline]
-pub fn mac128_by(
-    block: &[u8; 64],
-    hash: &Option<KeyedHash>,
-    first: &[u8],
-    second: &[u8],
-) -> [u8; 16]
-    requires { IsHashOf hash.now (Some block.now) }
-    ensures { result ≡ mac128_of block.now (first.now ++ second.now) }
-{
-    match hash {
-        Some(key) => key.mac128(first, second),
-        None => mac128(block, first, second),
-    }
 }
 
 #[cfg(test)]

@@ -11,4 +11,4 @@ pub use reading::{
     Unread, array4_at, array8_at, array16_at, array64_at, octet_in, octets_at, u16_at, u32_at,
     u64_at, zeros_at,
 };
-pub use writing::put;
+pub use writing::{put, put_array};

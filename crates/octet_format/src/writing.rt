@@ -14,3 +14,12 @@ pub fn put(out: &mut [u8], at: usize, field: &[u8])
     }
     out[at..at + field.len()].copy_from_slice(field);
 }
+
+/// Writes a field that is passed by value at its place, so that it needn't stand elsewhere in memory. All other octets stay.
+#[inline(always)]
+pub fn put_array<const N: usize>(out: &mut [u8], at: usize, field: [u8; N])
+    requires { at + length field ≤ length out.old }
+    ensures { out.new ≡ take at out.old ++ field.entry ++ drop (at + length field.entry) out.old }
+{
+    put(out, at, &field);
+}

@@ -1,1 +1,2 @@
 pub mod SameFacts
+pub mod TlvFacts

@@ -2,3 +2,4 @@ pub mod Keys
 pub mod Configs
 pub mod Spelling
 pub mod Same
+pub mod HmacKey

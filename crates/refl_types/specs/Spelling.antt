@@ -99,4 +99,5 @@ pub record FitsConfig (c : ConfigParts) : Type 0 where
   pub offset : c.offset < 256
   pub multiplier : c.multiplier < 256
   pub info : IsArray 4 c.info
+  pub tlvs : c.tlvs < 2 ^ 32
   pub block : FitsBlock c.key

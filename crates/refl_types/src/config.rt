@@ -30,7 +30,7 @@ pub struct ConfigParts {
     pub multiplier: u8,
     /// The value of a Timestamp Information TLV (RFC 8972, section 4.3).
     pub info: [u8; 4],
-    /// Bit t says that TLV type t is supported. Only bits 3 and 5 may be set.
+    /// Bit t says that TLV type t is supported. Only bits 3, 5, 9 and 10 may be set.
     pub tlvs: u32,
     /// The HMAC key, as a block of 64 octets (RFC 2104, section 2).
     pub key: Option<[u8; 64]>,
@@ -66,11 +66,15 @@ impl Model for Config {
     ghost inverse = { λ p. record { parts = p } };
 }
 
-/// Whether no TLV type is named but 3 and 5.
-fn are_known_tlvs(tlvs: u32) -> bool
+/// The TLV types that may be supported, as bits: Timestamp Information and Direct Measurement (RFC 8972, sections 4.3
+/// and 4.5), Destination Node Address and Return Path (RFC 9503, sections 3 and 4).
+const KNOWN_TLVS: u32 = 1 << 3 | 1 << 5 | 1 << 9 | 1 << 10;
+
+/// Whether no TLV type is named by a bit but 3, 5, 9 and 10.
+pub fn are_known_tlvs(tlvs: u32) -> bool
     ensures { result ≡ are_known_tlvs tlvs }
 {
-    tlvs == tlvs / 8 % 2 * 8 + tlvs / 32 % 2 * 32
+    tlvs & !KNOWN_TLVS == 0
 }
 
 impl Config {

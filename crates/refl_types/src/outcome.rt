@@ -18,6 +18,8 @@ pub enum Silent {
     Short,
     /// The HMAC of its base packet is another. The sender or the network is to blame.
     BadHmac,
+    /// Its sender asked for no reply, by the Control Code of a Return Path (RFC 9503, section 4.1.1).
+    NoReply,
 }
 
 /// Why a datagram was not answered.
@@ -29,6 +31,8 @@ pub enum Unanswered {
     Short,
     /// The HMAC of its base packet was another.
     BadHmac,
+    /// Its sender asked for no reply.
+    NoReply,
     /// The configuration changed while it was answered: it would have been reflected under the one that was seen, and
     /// not under the one that was in force at its draw. The two are told by their rows.
     Changed { seen: u32, drawn: u32 },

@@ -3,6 +3,7 @@ use Rattle.std.proofs.Common.{◌≡◌, ℕ, ◌∙◌, Option, Some, None, Lis
 use Rattle.refl_types.specs.declared.types.Mode.{Mode}
 use Rattle.refl_types.specs.declared.types.Mode.TheVariants.{Plain, Auth, Twamp}
 use Rattle.refl_types.specs.declared.config.ConfigParts.{ConfigParts}
+use Rattle.tlv_actions.specs.declared.reply.ReplyFacts.{ReplyFacts}
 use Rattle.tlv_chain.specs.Split.{Split, split}
 use Rattle.tlv_chain.proofs.SplitFacts.{split_none, no_whole}
 use Rattle.tlv_integrity.specs.declared.integrity.Integrity.{Integrity}
@@ -26,11 +27,11 @@ integrity_empty : (mode : Mode) (c : ConfigParts) (sequence : List ℕ) → inte
 unfolding integrity
 integrity_empty mode c sequence = under_empty mode c.key sequence
 
-pub tail_reply-nil : (mode : Mode) (c : ConfigParts) (n : ℕ) (asked answered : List ℕ) → tail_reply mode c n asked answered [] ≡ []
+pub tail_reply-nil : (mode : Mode) (c : ConfigParts) (facts : ReplyFacts) (asked answered : List ℕ) → tail_reply mode c facts asked answered [] ≡ []
 unfolding tail_reply
-tail_reply-nil mode c n asked answered =
-    ap (λ (i : Integrity). reply_by i c n answered (split [])) (integrity_empty mode c asked) ∙ ap (λ (s : Split). reply_by Absent c n answered s) split_empty
+tail_reply-nil mode c facts asked answered =
+    ap (λ (i : Integrity). reply_by i c facts answered (split [])) (integrity_empty mode c asked) ∙ ap (λ (s : Split). reply_by Absent c facts answered s) split_empty
 
-pub tail_by : (mode : Mode) (c : ConfigParts) (n : ℕ) (asked answered tail : List ℕ) (i : Integrity) → i ≡ integrity mode c asked tail → reply_by i c n answered (split tail) ≡ tail_reply mode c n asked answered tail
+pub tail_by : (mode : Mode) (c : ConfigParts) (facts : ReplyFacts) (asked answered tail : List ℕ) (i : Integrity) → i ≡ integrity mode c asked tail → reply_by i c facts answered (split tail) ≡ tail_reply mode c facts asked answered tail
 unfolding tail_reply
-tail_by mode c n asked answered tail i e = ap (λ (j : Integrity). reply_by j c n answered (split tail)) e
+tail_by mode c facts asked answered tail i e = ap (λ (j : Integrity). reply_by j c facts answered (split tail)) e

@@ -15,9 +15,10 @@ use Rattle.stamp_packet.specs.Plain.{read_of, sender_of}
 use Rattle.stamp_auth.specs.Request.{auth_sender_of}
 use Rattle.twamp_test.specs.Request.{test_sender_of}
 use Rattle.twamp_test.specs.Reply.{test_reply}
+use Rattle.reflect_core.specs.declared.session.Draw.{Draw}
 use Rattle.reflect_core.specs.declared.reflecting.Reply.{Reply}
 use Rattle.reflect_core.specs.Base.{reply_base}
-use Rattle.reflect_core.specs.Reflection.{Reflected, IsReply, plain_octets, auth_octets, reflected_octets}
+use Rattle.reflect_core.specs.Reflection.{Arrived, facts_of, Reflected, IsReply, plain_octets, auth_octets, reflected_octets}
 
 -- ---- what was read
 
@@ -33,25 +34,25 @@ read_ok octets s le e = ok_of (ltb (length octets) 44) (record {}) (sender_of oc
 
 -- ---- the fields of a reply
 
-pub base_is : (p c : ConfigParts) (n : ℕ) (d : Meta) (t3 : ℕ) (s s' : SenderBase) (base : ReplyBase) → base ≡ reply_base p n d t3 s → p ≡ c → s ≡ s' → base ≡ reply_base c n d t3 s'
-base_is p c n d t3 s s' base e same sender = e ∙ ap (λ (q : ConfigParts). reply_base q n d t3 s) same ∙ ap (reply_base c n d t3) sender
+pub base_is : (p c : ConfigParts) (draw : Draw) (m : Meta) (s s' : SenderBase) (base : ReplyBase) → base ≡ reply_base p draw m s → p ≡ c → s ≡ s' → base ≡ reply_base c draw m s'
+base_is p c draw m s s' base e same sender = e ∙ ap (λ (q : ConfigParts). reply_base q draw m s) same ∙ ap (reply_base c draw m) sender
 
 pub block_is : (key : Option (List ℕ)) (block : List ℕ) → key ≡ Some block → block ≡ block_octets key
 block_is key block e = sym (ap block_octets e)
 
 -- ---- the octets by mode
 
-pub plain_is : (mode : Mode) (x : Extra) (c : ConfigParts) (n : ℕ) (d : Meta) (t3 : ℕ) (octets : List ℕ) → mode ≡ Plain → plain_octets c n (reply_base c n d t3 (sender_of octets)) octets ≡ reflected_octets mode x c n d t3 octets
+pub plain_is : (mode : Mode) (x : Extra) (c : ConfigParts) (draw : Draw) (d : Arrived) → mode ≡ Plain → plain_octets c (facts_of draw) (reply_base c draw d.meta (sender_of d.octets)) d.octets ≡ reflected_octets mode x c draw d
 unfolding reflected_octets
-plain_is mode x c n d t3 octets e = rw e refl
+plain_is mode x c draw d e = rw e refl
 
-pub auth_is : (mode : Mode) (x : Extra) (c : ConfigParts) (n : ℕ) (d : Meta) (t3 : ℕ) (octets : List ℕ) → mode ≡ Auth → auth_octets c n (reply_base c n d t3 (auth_sender_of octets)) octets ≡ reflected_octets mode x c n d t3 octets
+pub auth_is : (mode : Mode) (x : Extra) (c : ConfigParts) (draw : Draw) (d : Arrived) → mode ≡ Auth → auth_octets c (facts_of draw) (reply_base c draw d.meta (auth_sender_of d.octets)) d.octets ≡ reflected_octets mode x c draw d
 unfolding reflected_octets
-auth_is mode x c n d t3 octets e = rw e refl
+auth_is mode x c draw d e = rw e refl
 
-pub test_is : (mode : Mode) (x : Extra) (c : ConfigParts) (n : ℕ) (d : Meta) (t3 : ℕ) (octets : List ℕ) → mode ≡ Twamp → test_reply x (reply_base c n d t3 (test_sender_of octets)) octets ≡ reflected_octets mode x c n d t3 octets
+pub test_is : (mode : Mode) (x : Extra) (c : ConfigParts) (draw : Draw) (d : Arrived) → mode ≡ Twamp → test_reply x (reply_base c draw d.meta (test_sender_of d.octets)) d.octets ≡ reflected_octets mode x c draw d
 unfolding reflected_octets
-test_is mode x c n d t3 octets e = rw e refl
+test_is mode x c draw d e = rw e refl
 
 pub replied : (r : Reflected) (reply : Reply) (old new out octets : List ℕ) (len : ℕ) → reply.from ≡ r.from → reply.to ≡ r.to → new ≡ out → reply.len ≡ len → out ≡ octets ++ drop len old → octets ≡ r.octets → length new ≡ length old → reply.len ≤ length old → IsReply r reply old new
 replied r reply old new out octets len from to same end_ e is kept le =

@@ -1,6 +1,6 @@
 -- What a pass over the TLVs of a tail keeps: what was written, with the reply of what is left, is the whole reply.
-use Rattle.std.proofs.Common.{◌≡◌, ℕ, ◌≤◌, ◌∙◌, Bool, true, false, if◌then◌else◌, List, [], ◌++◌, length, take, drop, refl, sym, ap, subst, append_assoc, arith}
-use Rattle.std.proofs.lemmas.List.{take_at, length-append, length-drop}
+use Rattle.std.proofs.Common.{◌≡◌, ℕ, ◌+◌, ◌≤◌, ◌∙◌, Bool, true, false, if◌then◌else◌, List, [], ◌++◌, length, take, drop, refl, sym, ap, subst, append_assoc, arith}
+use Rattle.std.proofs.lemmas.List.{take_at, drop_at, drop-drop, length-append, length-drop}
 use Rattle.octet_format.specs.Octets.{IsBytes}
 use Rattle.octet_format.proofs.Obeys.{IsBytes-drop}
 use Rattle.refl_types.specs.declared.config.ConfigParts.{ConfigParts}
@@ -10,9 +10,10 @@ use Rattle.tlv_chain.specs.Split.{Split, split, add_first}
 use Rattle.tlv_chain.specs.Walking.{Walking, IsAtRest, WentPast, tlv_at}
 use Rattle.tlv_chain.proofs.SplitFacts.{split_is}
 use Rattle.tlv_chain.proofs.Walks.{step_of, rest_of, past}
+use Rattle.tlv_actions.specs.declared.reply.ReplyFacts.{ReplyFacts}
 use Rattle.tlv_actions.specs.declared.reply.Acted.{Acted}
 use Rattle.tlv_actions.specs.declared.reply.Acted.TheVariants.{Done, Malformed}
-use Rattle.tlv_actions.specs.Rows.{WritesTlv, reply_tlv, is_malformed, acted_on}
+use Rattle.tlv_actions.specs.Rows.{WritesTlv, HoldsTlv, reply_tlv, is_malformed, acted_on}
 use Rattle.reflect_core.specs.Tail.{failed_reply, flagged, processed_reply}
 
 -- the reply of a split is whole
@@ -80,11 +81,11 @@ stopped whole tail old s new out out' out'' t bytes way went writes same next e 
 pub flags_first : (tail : List ℕ) (s : Span) (rest : Split) → failed_reply (add_first (tlv_at tail s) rest) ≡ tlv_octets (flagged (tlv_at tail s)) ++ failed_reply rest
 flags_first tail s rest = append_assoc (tlv_octets (flagged (tlv_at tail s))) _ _
 
-pub processes_first : (c : ConfigParts) (n : ℕ) (t : Tlv) (rest : Split) → is_malformed c t ≡ false → processed_reply c n (add_first t rest) ≡ tlv_octets (reply_tlv c n t) ++ processed_reply c n rest
-processes_first c n t rest e = rw e refl
+pub processes_first : (c : ConfigParts) (facts : ReplyFacts) (t : Tlv) (rest : Split) → is_malformed c t ≡ false → processed_reply c facts (add_first t rest) ≡ tlv_octets (reply_tlv c facts t) ++ processed_reply c facts rest
+processes_first c facts t rest e = rw e refl
 
-pub stops_first : (c : ConfigParts) (n : ℕ) (t : Tlv) (rest : Split) → is_malformed c t ≡ true → processed_reply c n (add_first t rest) ≡ tlv_octets (reply_tlv c n t) ++ (tlvs_octets rest.tlvs ++ rest.rest)
-stops_first c n t rest e = rw e refl
+pub stops_first : (c : ConfigParts) (facts : ReplyFacts) (t : Tlv) (rest : Split) → is_malformed c t ≡ true → processed_reply c facts (add_first t rest) ≡ tlv_octets (reply_tlv c facts t) ++ (tlvs_octets rest.tlvs ++ rest.rest)
+stops_first c facts t rest e = rw e refl
 
 malformed_if : (b : Bool) → (if b then Malformed else Done) ≡ Malformed → b ≡ true
 malformed_if true e = refl
@@ -92,3 +93,66 @@ malformed_if false e = absurd cc
 
 pub malformed_is : (c : ConfigParts) (t : Tlv) (acted : Acted) → acted ≡ acted_on c t → acted ≡ Malformed → is_malformed c t ≡ true
 malformed_is c t acted e f = malformed_if (is_malformed c t) (sym e ∙ f)
+
+-- ---- a pass over a copy of the tail
+
+-- what isn't walked yet stands there as received
+pub record IsOver (whole : Split → List ℕ) (tail : List ℕ) (w : Walking) (out : List ℕ) : Type 0 where
+  pub way : IsUnderWay whole tail w out
+  pub later : drop w.at out ≡ drop w.at tail
+
+pub begun_over : (whole : Split → List ℕ) (tail out : List ℕ) → out ≡ tail → let w : Walking = record { tail = tail; at = 0 } in IsOver whole tail w out
+begun_over whole tail out e = record { way = begun whole tail out (ap length e); later = e }
+
+-- a TLV of the tail, and then what is behind it
+tlv_stands : (tail : List ℕ) (old : Walking) (s : Span) (new : Walking) → IsBytes tail → old.tail ≡ tail → WentPast old s new → drop s.at tail ≡ tlv_octets (tlv_at tail s) ++ drop (past s) tail
+tlv_stands tail old s new bytes of went =
+    let step = step_of tail old s new of went in
+    let left = split (drop (past s) tail) in
+    let here : drop s.at tail ≡ tlvs_octets (split (drop s.at tail)).tlvs ++ (split (drop s.at tail)).rest = (split_is (drop s.at tail) (IsBytes-drop s.at tail bytes)).parts in
+    let there : drop (past s) tail ≡ tlvs_octets left.tlvs ++ left.rest = (split_is (drop (past s) tail) (IsBytes-drop (past s) tail bytes)).parts in
+    here
+    ∙ ap (λ (x : Split). tlvs_octets x.tlvs ++ x.rest) step.split
+    ∙ append_assoc (tlv_octets (tlv_at tail s)) (tlvs_octets left.tlvs) left.rest
+    ∙ ap (λ (x : List ℕ). tlv_octets (tlv_at tail s) ++ x) (sym there)
+
+later_at : (tail out : List ℕ) (at : ℕ) (s : Span) → drop at out ≡ drop at tail → s.at ≡ at → drop (past s) out ≡ drop (past s) tail
+later_at tail out at s e same =
+    let n = 4 + s.len in
+    let sum : at + n ≡ past s = omega (arith, same) in
+    ap (λ (m : ℕ). drop m out) (sym sum) ∙ sym (drop-drop n at out) ∙ ap (drop n) e ∙ drop-drop n at tail ∙ ap (λ (m : ℕ). drop m tail) sum
+
+pub holds_over : (whole : Split → List ℕ) (tail : List ℕ) (old : Walking) (s : Span) (new : Walking) (out : List ℕ) → IsBytes tail → IsOver whole tail old out → WentPast old s new → HoldsTlv out s (tlv_at tail s)
+holds_over whole tail old s new out bytes over went = record {
+  holds =
+      ap (λ (m : ℕ). drop m out) went.from ∙ over.later ∙ ap (λ (m : ℕ). drop m tail) (sym went.from)
+      ∙ tlv_stands tail old s new bytes over.way.of went
+      ∙ ap (λ (x : List ℕ). tlv_octets (tlv_at tail s) ++ x) (sym (later_at tail out old.at s over.later went.from));
+}
+
+-- what is behind a TLV that was written stays
+behind : (old new : List ℕ) (s : Span) (t : Tlv) (n : ℕ) → WritesTlv old s t new → length new ≡ n → length old ≡ n → past s ≤ n → drop (past s) new ≡ drop (past s) old
+behind old new s t n writes ln lo le =
+    let front = take s.at old ++ tlv_octets t in
+    let len : length front ≡ past s = omega (arith, ap length writes.octets, length-append front (drop (past s) old), length-drop (past s) old, ln, lo) in
+    ap (drop (past s)) writes.octets ∙ drop_at front (drop (past s) old) (past s) len
+
+pub behind_over : (whole : Split → List ℕ) (tail : List ℕ) (old : Walking) (s : Span) (new : Walking) (out out' : List ℕ) (t : Tlv) → IsOver whole tail old out → WentPast old s new → WritesTlv out s t out' → length out' ≡ length out → drop (past s) out' ≡ drop (past s) tail
+behind_over whole tail old s new out out' t over went writes same =
+    let step = step_of tail old s new over.way.of went in
+    behind out out' s t (length tail) writes (same ∙ over.way.room) over.way.room step.within ∙ later_at tail out old.at s over.later went.from
+
+pub goes_over : (whole : Split → List ℕ) (tail : List ℕ) (old : Walking) (s : Span) (new : Walking) (out out' : List ℕ) (t : Tlv) → IsOver whole tail old out → WentPast old s new → WritesTlv out s t out' → length out' ≡ length out → ((rest : Split) → whole (add_first (tlv_at tail s) rest) ≡ tlv_octets t ++ whole rest) → IsOver whole tail new out'
+goes_over whole tail old s new out out' t over went writes same next =
+    let to : new.at ≡ past s = omega (arith, went.to, went.from) in
+    record {
+      way = goes_on whole tail old s new out out' t over.way went writes same next;
+      later = ap (λ (m : ℕ). drop m out') to ∙ behind_over whole tail old s new out out' t over went writes same ∙ ap (λ (m : ℕ). drop m tail) (sym to);
+    }
+
+done_if : (b : Bool) → ((if b then Malformed else Done) ≡ Malformed → ⊥) → b ≡ false
+done_if true f = absurd (f refl)
+done_if false f = refl
+
+pub done_is : (c : ConfigParts) (t : Tlv) (acted : Acted) → acted ≡ acted_on c t → (acted ≡ Malformed → ⊥) → is_malformed c t ≡ false
+done_is c t acted e f = done_if (is_malformed c t) (λ b. f (e ∙ b))

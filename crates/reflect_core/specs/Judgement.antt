@@ -1,5 +1,5 @@
 -- Whether a datagram of a session is reflected (RFC 8762, section 4.3; RFC 5357, section 4.2).
-use Rattle.std.specs.Prelude.{ℕ, List, length, nat_lt, if◌then◌else◌, IsSome}
+use Rattle.std.specs.Prelude.{ℕ, List, length, nat_lt, if◌then◌else◌}
 use Rattle.refl_types.specs.declared.types.Mode.{Mode}
 use Rattle.refl_types.specs.declared.types.Mode.TheVariants.{Plain, Auth, Twamp}
 use Rattle.refl_types.specs.declared.config.ConfigParts.{ConfigParts}
@@ -8,12 +8,6 @@ use Rattle.refl_types.specs.Spelling.{block_octets}
 use Rattle.stamp_auth.specs.Request.{has_base_hmac}
 use Rattle.reflect_core.specs.declared.judging.Judged.{Judged}
 use Rattle.reflect_core.specs.declared.judging.Judged.TheVariants.{Reflect, Silent}
-
--- a session of mode Auth has an HMAC key
-abbrev pub HasKey : Mode → ConfigParts → Type 0
-HasKey Auth c = IsSome c.key
-HasKey Plain c = Unit {0}
-HasKey Twamp c = Unit {0}
 
 abbrev pub judged_length : ℕ → List ℕ → Judged
 judged_length least octets = if nat_lt (length octets) least then Silent Short else Reflect

@@ -14,36 +14,53 @@ use Rattle.stamp_auth.specs.Request.{auth_sender_of}
 use Rattle.stamp_auth.specs.Reply.{auth_reply}
 use Rattle.twamp_test.specs.Request.{test_sender_of}
 use Rattle.twamp_test.specs.Reply.{test_reply}
+use Rattle.tlv_actions.specs.declared.reply.ReplyFacts.{ReplyFacts}
+use Rattle.reflect_core.specs.declared.session.Datagram as datagrams
+use Rattle.reflect_core.specs.declared.session.Draw.{Draw}
 use Rattle.reflect_core.specs.declared.reflecting.Reply.{Reply}
 use Rattle.reflect_core.specs.Base.{reply_base}
 use Rattle.reflect_core.specs.Tail.{tail_after}
 
+-- ---- what a reply is made of
+
+-- a datagram: what is told of it, and its octets
+pub record Arrived : Type 0 where
+  pub meta : Meta
+  pub octets : List ℕ
+
+abbrev pub arrived : datagrams.Datagram → Arrived
+arrived d = record { meta = d.meta.now; octets = d.octets.now }
+
+-- what the TLVs of a reply tell
+abbrev pub facts_of : Draw → ReplyFacts
+facts_of draw = record { n = draw.number }
+
 -- ---- the octets, from the fields of the base packet
 
-abbrev pub plain_octets : ConfigParts → ℕ → ReplyBase → List ℕ → List ℕ
-plain_octets c n base octets = plain_reply base ++ tail_after 44 Plain c n base.sequence octets
+abbrev pub plain_octets : ConfigParts → ReplyFacts → ReplyBase → List ℕ → List ℕ
+plain_octets c facts base octets = plain_reply base ++ tail_after 44 Plain c facts base.sequence octets
 
-abbrev pub auth_octets : ConfigParts → ℕ → ReplyBase → List ℕ → List ℕ
-auth_octets c n base octets = auth_reply (block_octets c.key) base ++ tail_after 112 Auth c n base.sequence octets
+abbrev pub auth_octets : ConfigParts → ReplyFacts → ReplyBase → List ℕ → List ℕ
+auth_octets c facts base octets = auth_reply (block_octets c.key) base ++ tail_after 112 Auth c facts base.sequence octets
 
-unfoldable pub reflected_octets : Mode → Extra → ConfigParts → ℕ → Meta → ℕ → List ℕ → List ℕ
-reflected_octets Plain x c n d t3 octets = plain_octets c n (reply_base c n d t3 (sender_of octets)) octets
-reflected_octets Auth x c n d t3 octets = auth_octets c n (reply_base c n d t3 (auth_sender_of octets)) octets
-reflected_octets Twamp x c n d t3 octets = test_reply x (reply_base c n d t3 (test_sender_of octets)) octets
+unfoldable pub reflected_octets : Mode → Extra → ConfigParts → Draw → Arrived → List ℕ
+reflected_octets Plain x c draw d = plain_octets c (facts_of draw) (reply_base c draw d.meta (sender_of d.octets)) d.octets
+reflected_octets Auth x c draw d = auth_octets c (facts_of draw) (reply_base c draw d.meta (auth_sender_of d.octets)) d.octets
+reflected_octets Twamp x c draw d = test_reply x (reply_base c draw d.meta (test_sender_of d.octets)) d.octets
 
 -- ---- a buffer that begins with the reply of each mode, and is as before past its length
 
-abbrev pub WritesPlain : ConfigParts → ℕ → Meta → ℕ → List ℕ → List ℕ → List ℕ → Type 0
-WritesPlain c n d t3 octets old new =
-    new ≡ plain_octets c n (reply_base c n d t3 (sender_of octets)) octets ++ drop (length octets) old
+abbrev pub WritesPlain : ConfigParts → ReplyFacts → Draw → Arrived → List ℕ → List ℕ → Type 0
+WritesPlain c facts draw d old new =
+    new ≡ plain_octets c facts (reply_base c draw d.meta (sender_of d.octets)) d.octets ++ drop (length d.octets) old
 
-abbrev pub WritesAuth : ConfigParts → ℕ → Meta → ℕ → List ℕ → List ℕ → List ℕ → Type 0
-WritesAuth c n d t3 octets old new =
-    new ≡ auth_octets c n (reply_base c n d t3 (auth_sender_of octets)) octets ++ drop (length octets) old
+abbrev pub WritesAuth : ConfigParts → ReplyFacts → Draw → Arrived → List ℕ → List ℕ → Type 0
+WritesAuth c facts draw d old new =
+    new ≡ auth_octets c facts (reply_base c draw d.meta (auth_sender_of d.octets)) d.octets ++ drop (length d.octets) old
 
-abbrev pub WritesTest : Extra → ConfigParts → ℕ → Meta → ℕ → List ℕ → ℕ → List ℕ → List ℕ → Type 0
-WritesTest x c n d t3 octets len old new =
-    new ≡ test_reply x (reply_base c n d t3 (test_sender_of octets)) octets ++ drop len old
+abbrev pub WritesTest : Extra → ConfigParts → Draw → Arrived → ℕ → List ℕ → List ℕ → Type 0
+WritesTest x c draw d len old new =
+    new ≡ test_reply x (reply_base c draw d.meta (test_sender_of d.octets)) d.octets ++ drop len old
 
 -- ---- a reply: from which local address, to whom, and its octets
 
@@ -52,13 +69,13 @@ pub record Reflected : Type 0 where
   pub to : Endpoint
   pub octets : List ℕ
 
--- of a datagram with what is told of it, in a session with a key, an extra and a configuration, with the number n that
--- was drawn (modulo 2^32) and the moment t3
-abbrev pub reflection : Key → Extra → ConfigParts → ℕ → Meta → ℕ → List ℕ → Reflected
-reflection k x c n d t3 octets = record {
-  from = d.local;
-  to = d.peer;
-  octets = reflected_octets k.mode x c n d t3 octets;
+-- of a datagram in a session with a key, an extra and a configuration, under the number that was drawn and the moment of
+-- sending
+abbrev pub reflection : Key → Extra → ConfigParts → Draw → Arrived → Reflected
+reflection k x c draw d = record {
+  from = d.meta.local;
+  to = d.meta.peer;
+  octets = reflected_octets k.mode x c draw d;
 }
 
 -- A reply was written to the front of a buffer. All other octets are as before.

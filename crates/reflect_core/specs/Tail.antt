@@ -8,6 +8,7 @@ use Rattle.refl_types.specs.declared.config.ConfigParts.{ConfigParts}
 use Rattle.refl_types.specs.Spelling.{block_octets}
 use Rattle.tlv_chain.specs.Tlv.{Tlv, tlv_octets, tlvs_octets, unrecognized, malformed, integrity_failed}
 use Rattle.tlv_chain.specs.Split.{Split, split}
+use Rattle.tlv_actions.specs.declared.reply.ReplyFacts.{ReplyFacts}
 use Rattle.tlv_actions.specs.Rows.{is_understood, is_malformed, reply_tlv}
 use Rattle.tlv_integrity.specs.declared.integrity.Integrity.{Integrity}
 use Rattle.tlv_integrity.specs.declared.integrity.Integrity.TheVariants.{Absent, Passed, Failed}
@@ -36,30 +37,30 @@ failed_reply s = flagged_octets s.tlvs ++ with_flags (bit_or (get_or s.rest 0 0)
 abbrev pub rest_flags : ConfigParts → List ℕ → ℕ
 rest_flags c rest = if is_understood c (get_or rest 1 0) then malformed else bit_or malformed unrecognized
 
-abbrev pub processed : ConfigParts → ℕ → List Tlv → List ℕ → List ℕ
-processed c n [] rest = with_flags (rest_flags c rest) rest
-processed c n (t ∷ ts) rest =
-    tlv_octets (reply_tlv c n t) ++ (if is_malformed c t then tlvs_octets ts ++ rest else processed c n ts rest)
+abbrev pub processed : ConfigParts → ReplyFacts → List Tlv → List ℕ → List ℕ
+processed c facts [] rest = with_flags (rest_flags c rest) rest
+processed c facts (t ∷ ts) rest =
+    tlv_octets (reply_tlv c facts t) ++ (if is_malformed c t then tlvs_octets ts ++ rest else processed c facts ts rest)
 
-abbrev pub processed_reply : ConfigParts → ℕ → Split → List ℕ
-processed_reply c n s = processed c n s.tlvs s.rest
+abbrev pub processed_reply : ConfigParts → ReplyFacts → Split → List ℕ
+processed_reply c facts s = processed c facts s.tlvs s.rest
 
 -- ---- the tail of a reply
 
-abbrev pub reply_by : Integrity → ConfigParts → ℕ → List ℕ → Split → List ℕ
-reply_by Failed c n answered s = failed_reply s
-reply_by Absent c n answered s = processed_reply c n s
-reply_by (Passed at) c n answered s = sealed (block_octets c.key) answered at (processed_reply c n s)
+abbrev pub reply_by : Integrity → ConfigParts → ReplyFacts → List ℕ → Split → List ℕ
+reply_by Failed c facts answered s = failed_reply s
+reply_by Absent c facts answered s = processed_reply c facts s
+reply_by (Passed at) c facts answered s = sealed (block_octets c.key) answered at (processed_reply c facts s)
 
 -- asked and answered are the octets of the Sequence Numbers of the request and of the reply
-unfoldable pub tail_reply : Mode → ConfigParts → ℕ → List ℕ → List ℕ → List ℕ → List ℕ
-tail_reply mode c n asked answered tail = reply_by (integrity mode c asked tail) c n answered (split tail)
+unfoldable pub tail_reply : Mode → ConfigParts → ReplyFacts → List ℕ → List ℕ → List ℕ → List ℕ
+tail_reply mode c facts asked answered tail = reply_by (integrity mode c asked tail) c facts answered (split tail)
 
 -- the tail of the reply to a datagram whose base packet has as many octets, with a Sequence Number of the reply
-abbrev pub tail_after : ℕ → Mode → ConfigParts → ℕ → ℕ → List ℕ → List ℕ
-tail_after len mode c n sequence octets = tail_reply mode c n (field 0 4 octets) (to_be_bytes w32 sequence) (drop len octets)
+abbrev pub tail_after : ℕ → Mode → ConfigParts → ReplyFacts → ℕ → List ℕ → List ℕ
+tail_after len mode c facts sequence octets = tail_reply mode c facts (field 0 4 octets) (to_be_bytes w32 sequence) (drop len octets)
 
 -- it stands in a buffer after as many octets, and all others are as before
-abbrev pub WritesTail : Mode → ConfigParts → ℕ → ℕ → ℕ → List ℕ → List ℕ → List ℕ → Type 0
-WritesTail mode c n sequence len octets old new =
-    new ≡ take len old ++ tail_after len mode c n sequence octets ++ drop (length octets) old
+abbrev pub WritesTail : Mode → ConfigParts → ReplyFacts → ℕ → ℕ → List ℕ → List ℕ → List ℕ → Type 0
+WritesTail mode c facts sequence len octets old new =
+    new ≡ take len old ++ tail_after len mode c facts sequence octets ++ drop (length octets) old

@@ -4,6 +4,7 @@ ghost use Rattle.std.specs.Prelude.{◌≡◌, if◌then◌else◌};
 ghost use Rattle.refl_types.specs.Configs.{IsConfig};
 ghost use Rattle.reflect_core.specs.Base.{error_estimate, reply_base};
 
+use crate::session::Draw;
 use ntp_time::stamp;
 use refl_types::{Clock, ConfigParts, Meta};
 use stamp_packet::{ReplyBase, SenderBase};
@@ -27,28 +28,27 @@ fn error_estimate(parts: &ConfigParts) -> [u8; 2]
 
 /// The Sequence Number of a reply: the reflector's own where it is stateful (RFC 8762, section 4.2).
 #[inline]
-fn sequence_of(parts: &ConfigParts, n: u32, sender: &SenderBase) -> u32
-    ensures { result ≡ (if parts.now.stateful then n else sender.now.sequence) }
+fn sequence_of(parts: &ConfigParts, number: u32, sender: &SenderBase) -> u32
+    ensures { result ≡ (if parts.now.stateful then number else sender.now.sequence) }
 {
-    if parts.stateful { n } else { sender.sequence }
+    if parts.stateful { number } else { sender.sequence }
 }
 
-/// The fields of the reply to a request, with the number `n` that was drawn and the moment `t3` of sending.
+/// The fields of the reply to a request.
 #[inline(always)]
 #[tactic(auto, unfolding(crate::specs::Base::reply_base))]
 pub fn reply_base(
     parts: &ConfigParts,
-    n: u32,
+    draw: &Draw,
     meta: &Meta,
-    t3: u64,
     sender: &SenderBase,
 ) -> ReplyBase
     requires { IsConfig parts.now }
-    ensures { result ≡ reply_base parts.now n meta.now t3 sender.now }
+    ensures { result ≡ reply_base parts.now draw.now meta.now sender.now }
 {
     ReplyBase {
-        sequence: sequence_of(parts, n, sender),
-        timestamp: stamp(parts.clock, parts.offset, t3),
+        sequence: sequence_of(parts, draw.number, sender),
+        timestamp: stamp(parts.clock, parts.offset, draw.sending),
         error: error_estimate(parts),
         ssid: sender.ssid,
         received: stamp(parts.clock, parts.offset, meta.arrival),

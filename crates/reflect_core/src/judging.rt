@@ -1,18 +1,25 @@
 //! Whether a datagram of a session is reflected (RFC 8762, section 4.3).
 
-ghost use Rattle.std.specs.Prelude.{◌≡◌};
-ghost use Rattle.hmac_sha256.specs.Hmac.{IsHashOf};
-ghost use Rattle.reflect_core.specs.Judgement.{HasKey, judgement, judged_length};
+ghost use Rattle.std.specs.Prelude.{◌≡◌, IsSome};
+ghost use Rattle.refl_types.specs.HmacKey.{HasHmacKey};
+ghost use Rattle.reflect_core.specs.Judgement.{judgement, judged_length};
 
-use hmac_sha256::KeyedHash;
-use refl_types::{Config, Key, Mode, Silent};
-use stamp_auth::{AuthFault, read_auth_by};
+use crate::session::Session;
+use keyed_config::KeyedConfig;
+use refl_types::{Config, Extra, Key, Mode, Silent};
+use stamp_auth::{AuthFault, read_auth_keyed};
 
 /// Octets of an unauthenticated base packet.
 const PLAIN_LEN: usize = 44;
 
 /// Octets of a TWAMP-Test packet before its padding.
 const TEST_LEN: usize = 14;
+
+/// An extra that doesn't matter where a datagram is judged.
+const NO_EXTRA: Extra = Extra {
+    symmetrical: false,
+    reflect: 0,
+};
 
 /// What is done with a datagram.
 #[derive(Clone, Copy, Debug, PartialEq, Eq)]
@@ -35,40 +42,45 @@ fn judge_length(octets: &[u8], least: usize) -> Judged
 }
 
 #[inline(never)]
-fn judge_auth(config: &Config, hash: &Option<KeyedHash>, octets: &[u8]) -> Judged
-    requires hash { IsHashOf hash.now config.now.key }
-    requires key { HasKey Mode.Auth config.now }
+fn judge_auth(config: &KeyedConfig, octets: &[u8]) -> Judged
+    requires { IsSome config.now.key }
     ensures { result ≡ judgement Mode.Auth config.now octets.now }
 {
-    let Some(block) = &config.as_parts().key else {
-        return Judged::Silent(Silent::BadHmac);
+    let Some(key) = config.hmac_key() else {
+        unreachable!();
     };
-    match read_auth_by(block, hash, octets) {
+    match read_auth_keyed(key, octets) {
         Ok(_) => Judged::Reflect,
         Err(AuthFault::Short) => Judged::Silent(Silent::Short),
         Err(AuthFault::BadHmac) => Judged::Silent(Silent::BadHmac),
     }
 }
 
-/// Whether a datagram of a session is reflected: not where it is shorter than the base packet of the session's mode,
-/// and in mode Auth not where the HMAC of its base packet is another.
-pub fn judge(key: &Key, config: &Config, octets: &[u8]) -> Judged
-    requires { HasKey key.now.mode config.now }
-    ensures { result ≡ judgement key.now.mode config.now octets.now }
-{
-    judge_by(key, config, &None, octets)
+impl Session<'_> {
+    /// Whether a datagram of the session is reflected: not where it is shorter than the base packet of the session's
+    /// mode, and in mode Auth not where the HMAC of its base packet is another.
+    #[inline(always)]
+    pub fn judge(&self, octets: &[u8]) -> Judged
+        ensures { result ≡ judgement self.now.key.now.mode self.now.config.now octets.now }
+    {
+        match self.key.mode {
+            Mode::Plain => judge_length(octets, PLAIN_LEN),
+            Mode::Twamp => judge_length(octets, TEST_LEN),
+            Mode::Auth => judge_auth(self.config, octets),
+        }
+    }
 }
 
-/// The same, where the blocks of the configuration's HMAC key may be hashed already.
-#[inline(always)]
-pub fn judge_by(key: &Key, config: &Config, hash: &Option<KeyedHash>, octets: &[u8]) -> Judged
-    requires hash { IsHashOf hash.now config.now.key }
-    requires key { HasKey key.now.mode config.now }
+/// Judges a datagram as `Session::judge` does, where the configuration's HMAC key is hashed in this call.
+pub fn judge(key: &Key, config: &Config, octets: &[u8]) -> Judged
+    requires { HasHmacKey key.now.mode config.now }
     ensures { result ≡ judgement key.now.mode config.now octets.now }
 {
-    match key.mode {
-        Mode::Plain => judge_length(octets, PLAIN_LEN),
-        Mode::Twamp => judge_length(octets, TEST_LEN),
-        Mode::Auth => judge_auth(config, hash, octets),
-    }
+    let config = KeyedConfig::of(config);
+    let session = Session {
+        key,
+        extra: &NO_EXTRA,
+        config: &config,
+    };
+    session.judge(octets)
 }

@@ -5,9 +5,11 @@
 mod base;
 mod judging;
 mod reflecting;
+mod session;
 mod tails;
 #[cfg(test)]
 mod tests;
 
-pub use judging::{Judged, judge, judge_by};
-pub use reflecting::{Reply, reflect, reflect_by};
+pub use judging::{Judged, judge};
+pub use reflecting::{Reply, reflect};
+pub use session::{Datagram, Draw, Session};

@@ -1,18 +1,20 @@
 //! The reflection of a datagram (RFC 8762, section 4.3; RFC 5357, section 4.2).
 
-ghost use Rattle.std.specs.Prelude.{◌≡◌, Some, ◌≤◌, IsSome, length};
+ghost use Rattle.std.specs.Prelude.{◌≡◌, ◌≤◌, IsSome, length};
+ghost use Rattle.refl_types.specs.HmacKey.{HasHmacKey};
 ghost use Rattle.refl_types.specs.declared.types.Mode.TheVariants.{Twamp};
-ghost use Rattle.hmac_sha256.specs.Hmac.{IsHashOf};
 ghost use Rattle.reflect_core.specs.declared.judging.Judged.TheVariants.{Reflect};
-ghost use Rattle.reflect_core.specs.Judgement.{HasKey, judgement};
-ghost use Rattle.reflect_core.specs.Reflection.{WritesPlain, WritesAuth, WritesTest, reflection, IsReply};
+ghost use Rattle.reflect_core.specs.Judgement.{judgement};
+ghost use Rattle.reflect_core.specs.Reflection.{arrived, WritesPlain, WritesAuth, WritesTest, reflection, IsReply};
 
 use crate::base::reply_base;
+use crate::session::{Datagram, Draw, Session};
 use crate::tails::write_tail_after;
-use hmac_sha256::KeyedHash;
+use keyed_config::KeyedConfig;
 use refl_types::{Config, Endpoint, Extra, Key, Meta, Mode};
-use stamp_auth::{auth_sender, write_auth_by};
-use stamp_packet::{read_plain, write_plain};
+use stamp_auth::{auth_sender, write_auth_keyed};
+use stamp_packet::{read_plain, write_plain_to};
+use tlv_actions::ReplyFacts;
 use twamp_test::{read_test, write_test};
 
 /// Octets of an unauthenticated base packet (RFC 8762, section 4.2.1).
@@ -49,28 +51,25 @@ fn reply_of(meta: &Meta, len: usize) -> Reply
 /// Writes the reply of an unauthenticated STAMP session.
 #[inline(always)]
 fn reflect_plain(
-    config: &Config,
-    hash: &Option<KeyedHash>,
-    n: u32,
-    meta: &Meta,
-    t3: u64,
-    input: &[u8],
+    config: &KeyedConfig,
+    facts: &ReplyFacts,
+    draw: &Draw,
+    datagram: &Datagram,
     out: &mut [u8],
 ) -> usize
-    requires hash { IsHashOf hash.now config.now.key }
-    requires judged { 44 ≤ length input.now }
-    requires room { length input.now ≤ length out.old }
-    ensures len { result ≡ length input.now }
-    ensures octets { WritesPlain config.now n meta.now t3 input.now out.old out.new }
+    requires judged { 44 ≤ length datagram.now.octets.now }
+    requires room { length datagram.now.octets.now ≤ length out.old }
+    ensures len { result ≡ length datagram.now.octets.now }
+    ensures octets { WritesPlain config.now facts.now draw.now (arrived datagram.now) out.old out.new }
 {
+    let input = datagram.octets;
     let sender = read_plain(input).unwrap();
-    let base = reply_base(config.as_parts(), n, meta, t3, &sender);
-    write_plain(&base, out);
+    let base = reply_base(config.as_parts(), draw, datagram.meta, &sender);
+    write_plain_to(&base, input, out);
     write_tail_after(
         Mode::Plain,
         config,
-        hash,
-        n,
+        facts,
         base.sequence,
         PLAIN_LEN,
         input,
@@ -79,86 +78,86 @@ fn reflect_plain(
     input.len()
 }
 
-/// Writes the reply of an authenticated STAMP session, under its key in block form.
+/// Writes the reply of an authenticated STAMP session. It stands out of line and takes copies, so that the fields of an
+/// unauthenticated datagram can stay in registers.
+#[inline(never)]
 fn reflect_auth(
-    block: &[u8; 64],
-    config: &Config,
-    hash: &Option<KeyedHash>,
-    n: u32,
-    meta: &Meta,
-    t3: u64,
+    config: &KeyedConfig,
+    facts: ReplyFacts,
+    draw: Draw,
+    meta: Meta,
     input: &[u8],
     out: &mut [u8],
-)
-    requires key { config.now.key ≡ Some block.now }
-    requires hash { IsHashOf hash.now config.now.key }
+) -> usize
+    requires key { IsSome config.now.key }
     requires judged { 112 ≤ length input.now }
     requires room { length input.now ≤ length out.old }
-    ensures { WritesAuth config.now n meta.now t3 input.now out.old out.new }
+    ensures len { result ≡ length input.now }
+    ensures octets { WritesAuth config.now facts draw (record { meta = meta; octets = input.now }) out.old out.new }
 {
+    let Some(key) = config.hmac_key() else {
+        unreachable!();
+    };
     let sender = auth_sender(input);
-    let base = reply_base(config.as_parts(), n, meta, t3, &sender);
-    write_auth_by(block, hash, &base, out);
+    let base = reply_base(config.as_parts(), &draw, &meta, &sender);
+    write_auth_keyed(key, &base, out);
     write_tail_after(
         Mode::Auth,
         config,
-        hash,
-        n,
+        &facts,
         base.sequence,
         AUTH_LEN,
         input,
         out,
     );
-}
-
-/// Writes the reply of an authenticated STAMP session.
-#[inline(never)]
-fn reflect_auth_session(
-    config: &Config,
-    hash: &Option<KeyedHash>,
-    n: u32,
-    meta: Meta,
-    t3: u64,
-    input: &[u8],
-    out: &mut [u8],
-) -> usize
-    requires hash { IsHashOf hash.now config.now.key }
-    requires key { IsSome config.now.key }
-    requires judged { 112 ≤ length input.now }
-    requires room { length input.now ≤ length out.old }
-    ensures len { result ≡ length input.now }
-    ensures octets { WritesAuth config.now n meta t3 input.now out.old out.new }
-{
-    if let Some(block) = &config.as_parts().key {
-        reflect_auth(block, config, hash, n, &meta, t3, input, out);
-    }
     input.len()
 }
 
 /// Writes the reply of a TWAMP-Test session.
-#[inline(never)]
+#[inline(always)]
 fn reflect_test(
     extra: &Extra,
-    config: &Config,
-    n: u32,
-    meta: Meta,
-    t3: u64,
-    input: &[u8],
+    config: &KeyedConfig,
+    draw: &Draw,
+    datagram: &Datagram,
     out: &mut [u8],
 ) -> usize
-    requires judged { 14 ≤ length input.now }
-    requires limit { length input.now ≤ 65507 }
+    requires judged { 14 ≤ length datagram.now.octets.now }
+    requires limit { length datagram.now.octets.now ≤ 65507 }
     requires room { 65536 ≤ length out.old }
     ensures limit { result ≤ 65507 }
-    ensures octets { WritesTest extra.now config.now n meta t3 input.now result out.old out.new }
+    ensures octets { WritesTest extra.now config.now draw.now (arrived datagram.now) result out.old out.new }
 {
-    let sender = read_test(input).unwrap();
-    let base = reply_base(config.as_parts(), n, &meta, t3, &sender);
-    write_test(extra, &base, input, out)
+    let sender = read_test(datagram.octets).unwrap();
+    let base = reply_base(config.as_parts(), draw, datagram.meta, &sender);
+    write_test(extra, &base, datagram.octets, out)
 }
 
-/// Writes the reply to a datagram that is to be reflected, with the number `n` that was drawn for it, modulo 2^32, and
-/// the moment `t3` of sending, in nanoseconds since the start of 1970. Octets of the buffer past the reply stay.
+impl Session<'_> {
+    /// Writes the reply to a datagram that is to be reflected. Octets of the buffer past the reply stay.
+    #[inline(always)]
+    pub fn reflect(&self, datagram: &Datagram, draw: &Draw, out: &mut [u8]) -> Reply
+        requires judged { judgement self.now.key.now.mode self.now.config.now datagram.now.octets.now ≡ Reflect }
+        requires limit { length datagram.now.octets.now ≤ 65507 }
+        requires room { 65536 ≤ length out.old }
+        ensures reply { IsReply (reflection self.now.key.now self.now.extra.now self.now.config.now draw.now (arrived datagram.now)) result out.old out.new }
+        ensures limit { result.len ≤ 65507 }
+        ensures size { (self.now.key.now.mode ≡ Twamp → ⊥) → result.len ≡ length datagram.now.octets.now }
+    {
+        let facts = ReplyFacts { n: draw.number };
+        let config = self.config;
+        let Datagram { meta, octets } = *datagram;
+        let len = match self.key.mode {
+            Mode::Plain => reflect_plain(config, &facts, draw, datagram, out),
+            Mode::Twamp => reflect_test(self.extra, config, draw, datagram, out),
+            Mode::Auth => reflect_auth(config, facts, *draw, *meta, octets, out),
+        };
+        reply_of(meta, len)
+    }
+}
+
+/// Writes the reply to a datagram as `Session::reflect` does, where the configuration's HMAC key is hashed in this call,
+/// `n` is the number that was drawn and `t3` the moment of sending (`Draw`).
 pub fn reflect(
     key: &Key,
     extra: &Extra,
@@ -169,43 +168,27 @@ pub fn reflect(
     input: &[u8],
     out: &mut [u8],
 ) -> Reply
-    requires key { HasKey key.now.mode config.now }
+    requires key { HasHmacKey key.now.mode config.now }
     requires judged { judgement key.now.mode config.now input.now ≡ Reflect }
     requires limit { length input.now ≤ 65507 }
     requires room { 65536 ≤ length out.old }
-    ensures reply { IsReply (reflection key.now extra.now config.now n meta.now t3 input.now) result out.old out.new }
+    ensures reply { IsReply (reflection key.now extra.now config.now (record { number = n; sending = t3 }) (record { meta = meta.now; octets = input.now })) result out.old out.new }
     ensures limit { result.len ≤ 65507 }
     ensures size { (key.now.mode ≡ Twamp → ⊥) → result.len ≡ length input.now }
 {
-    reflect_by(key, extra, config, &None, n, meta, t3, input, out)
-}
-
-/// The same, where the blocks of the configuration's HMAC key may be hashed already.
-#[inline(always)]
-pub fn reflect_by(
-    key: &Key,
-    extra: &Extra,
-    config: &Config,
-    hash: &Option<KeyedHash>,
-    n: u32,
-    meta: &Meta,
-    t3: u64,
-    input: &[u8],
-    out: &mut [u8],
-) -> Reply
-    requires hash { IsHashOf hash.now config.now.key }
-    requires key { HasKey key.now.mode config.now }
-    requires judged { judgement key.now.mode config.now input.now ≡ Reflect }
-    requires limit { length input.now ≤ 65507 }
-    requires room { 65536 ≤ length out.old }
-    ensures reply { IsReply (reflection key.now extra.now config.now n meta.now t3 input.now) result out.old out.new }
-    ensures limit { result.len ≤ 65507 }
-    ensures size { (key.now.mode ≡ Twamp → ⊥) → result.len ≡ length input.now }
-{
-    let len = match key.mode {
-        Mode::Plain => reflect_plain(config, hash, n, meta, t3, input, out),
-        Mode::Twamp => reflect_test(extra, config, n, *meta, t3, input, out),
-        Mode::Auth => reflect_auth_session(config, hash, n, *meta, t3, input, out),
+    let config = KeyedConfig::of(config);
+    let session = Session {
+        key,
+        extra,
+        config: &config,
     };
-    reply_of(meta, len)
+    let datagram = Datagram {
+        meta,
+        octets: input,
+    };
+    let draw = Draw {
+        number: n,
+        sending: t3,
+    };
+    session.reflect(&datagram, &draw, out)
 }

@@ -1,16 +1,15 @@
 //! The TLVs of a reply (RFC 8972, section 4), written in one pass.
 
 ghost use Rattle.std.specs.Prelude.{◌≡◌, ◌+◌, ◌≤◌, ◌++◌, length, take, slice_index_or};
-ghost use Rattle.hmac_sha256.specs.Hmac.{IsHashOf};
 ghost use Rattle.tlv_chain.specs.Split.{split};
 ghost use Rattle.reflect_core.specs.Tail.{failed_reply, processed_reply, WritesTail, tail_reply, with_flags, rest_flags};
 
-use hmac_sha256::KeyedHash;
+use keyed_config::KeyedConfig;
 use octet_format::{field4, put};
-use refl_types::{Config, Mode};
+use refl_types::Mode;
 use tlv_actions::{Acted, ReplyFacts, act, copy_tlv, is_understood};
 use tlv_chain::Walk;
-use tlv_integrity::{Integrity, check_by, seal_by};
+use tlv_integrity::{Integrity, check_keyed, seal_keyed};
 
 /// The U flag (RFC 8972, section 4).
 const UNRECOGNIZED: u8 = 0x80;
@@ -70,7 +69,7 @@ fn flag_all(tail: &[u8], out: &mut [u8])
 
 /// The flags of a rest that has a header.
 #[inline]
-fn rest_flags(config: &Config, rest: &[u8]) -> u8
+fn rest_flags(config: &KeyedConfig, rest: &[u8]) -> u8
     ensures { result ≡ rest_flags config.now rest.now }
 {
     if is_understood(config.as_parts(), octet_or_zero(rest, 1)) {
@@ -82,17 +81,14 @@ fn rest_flags(config: &Config, rest: &[u8]) -> u8
 
 /// Writes what the reply has for each TLV, up to a malformed one.
 #[inline(never)]
-fn process(config: &Config, n: u32, tail: &[u8], out: &mut [u8])
+fn process(config: &KeyedConfig, facts: ReplyFacts, tail: &[u8], out: &mut [u8])
     requires { length out.old ≡ length tail.now }
-    ensures { out.new ≡ processed_reply config.now n (split tail.now) }
+    ensures { out.new ≡ processed_reply config.now facts (split tail.now) }
 {
-    let facts = ReplyFacts { n };
+    put_last(tail, 0, out);
     let mut walk = Walk::new(tail);
     while let Some(span) = walk.next() {
-        if let Acted::Malformed = act(config, &facts, tail, &span, out) {
-            let at = walk.rest();
-            let (_, later) = tail.split_at(at);
-            put_last(later, at, out);
+        if let Acted::Malformed = act(config.config(), &facts, tail, &span, out) {
             return;
         }
     }
@@ -104,24 +100,22 @@ fn process(config: &Config, n: u32, tail: &[u8], out: &mut [u8])
 #[inline(always)]
 pub fn write_tail(
     mode: Mode,
-    config: &Config,
-    hash: &Option<KeyedHash>,
-    n: u32,
+    config: &KeyedConfig,
+    facts: &ReplyFacts,
     asked: &[u8; 4],
     answered: &[u8; 4],
     tail: &[u8],
     out: &mut [u8],
 )
-    requires hash { IsHashOf hash.now config.now.key }
-    requires len { length out.old ≡ length tail.now }
-    ensures { out.new ≡ tail_reply mode config.now n asked.now answered.now tail.now }
+    requires { length out.old ≡ length tail.now }
+    ensures { out.new ≡ tail_reply mode config.now facts.now asked.now answered.now tail.now }
 {
-    match check_by(mode, config, hash, asked, tail) {
+    match check_keyed(mode, config, asked, tail) {
         Integrity::Failed => flag_all(tail, out),
-        Integrity::Absent => process(config, n, tail, out),
+        Integrity::Absent => process(config, *facts, tail, out),
         Integrity::Passed(at) => {
-            process(config, n, tail, out);
-            seal_by(config, hash, answered, out, at);
+            process(config, *facts, tail, out);
+            seal_keyed(config, answered, out, at);
         }
     }
 }
@@ -130,19 +124,17 @@ pub fn write_tail(
 #[inline(always)]
 fn write_tail_at(
     mode: Mode,
-    config: &Config,
-    hash: &Option<KeyedHash>,
-    n: u32,
+    config: &KeyedConfig,
+    facts: &ReplyFacts,
     sequence: u32,
     at: usize,
     input: &[u8],
     out: &mut [u8],
 )
-    requires hash { IsHashOf hash.now config.now.key }
     requires base { 4 ≤ at }
     requires tail { at ≤ length input.now }
     requires room { length input.now ≤ length out.old }
-    ensures { WritesTail mode config.now n sequence at input.now out.old out.new }
+    ensures { WritesTail mode config.now facts.now sequence at input.now out.old out.new }
 {
     let (_, tail) = input.split_at(at);
     let asked = field4(input, 0);
@@ -150,8 +142,7 @@ fn write_tail_at(
     write_tail(
         mode,
         config,
-        hash,
-        n,
+        facts,
         &asked,
         &answered,
         tail,
@@ -163,21 +154,19 @@ fn write_tail_at(
 #[inline(always)]
 pub fn write_tail_after(
     mode: Mode,
-    config: &Config,
-    hash: &Option<KeyedHash>,
-    n: u32,
+    config: &KeyedConfig,
+    facts: &ReplyFacts,
     sequence: u32,
     at: usize,
     input: &[u8],
     out: &mut [u8],
 )
-    requires hash { IsHashOf hash.now config.now.key }
     requires base { 4 ≤ at }
     requires tail { at ≤ length input.now }
     requires room { length input.now ≤ length out.old }
-    ensures { WritesTail mode config.now n sequence at input.now out.old out.new }
+    ensures { WritesTail mode config.now facts.now sequence at input.now out.old out.new }
 {
     if input.len() > at {
-        write_tail_at(mode, config, hash, n, sequence, at, input, out);
+        write_tail_at(mode, config, facts, sequence, at, input, out);
     }
 }

@@ -1,6 +1,6 @@
 //! Whole reflections, by tables. What is expected was worked out by hand, and HMACs by another implementation.
 ghost use Rattle.std.specs.Prelude.{◌≡◌, true};
-ghost use Rattle.reflect_core.specs.Judgement.{HasKey};
+ghost use Rattle.refl_types.specs.HmacKey.{HasHmacKey};
 
 use super::*;
 use refl_types::{Address, Clock, Config, ConfigParts, Endpoint, Extra, Key, Meta, Mode, Silent};
@@ -67,7 +67,7 @@ fn session(mode: Mode) -> Key
 }
 
 fn has_key(mode: Mode, config: &Config) -> bool
-    ensures { result ≡ true → HasKey mode config.now }
+    ensures { result ≡ true → HasHmacKey mode config.now }
 {
     match mode {
         Mode::Auth => config.as_parts().key.is_some(),
@@ -84,7 +84,7 @@ fn answer(
     n: u32,
     input: &[u8],
 ) -> Result<Vec<u8>, Fail>
-    requires { HasKey key.now.mode config.now }
+    requires { HasHmacKey key.now.mode config.now }
 {
     if input.len() > 65_507 {
         return Err("too long".into());

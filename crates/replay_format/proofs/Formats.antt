@@ -21,8 +21,9 @@ use Rattle.refl_types.specs.Keys.{is_sound, is_sound_in, has_no_extra}
 use Rattle.refl_types.specs.Configs.{are_known_tlvs}
 use Rattle.refl_types.specs.Spelling.{flag, family, address_octets, endpoint_octets, mode_code, key_octets, extra_octets, is_ptp, has, block_octets, config_flags, config_octets, FitsAddress, FitsEndpoint, FitsKey, FitsBlock, FitsConfig}
 use Rattle.replay_format.specs.Records.{Item, Opens, Arrives, Opening, Datagram, ttl_octets, opening_octets, datagram_octets, spelling, FitsTtl, FitsDatagram, FitsOpening, Fits}
-use Rattle.replay_format.specs.Reading.{address_at, endpoint_at, body_len_at, ttl_at, datagram_at, mode_of, ssid_at, key_at, extra_at, block_at, has_bit, config_at, opening_at, item_at}
+use Rattle.replay_format.specs.Reading.{address_at, endpoint_at, body_len_at, ttl_at, datagram_at, mode_of, ssid_at, key_at, extra_at, tlvs_at, block_at, has_bit, config_at, opening_at, item_at}
 use Rattle.refl_types.proofs.SameFacts.{both_true}
+use Rattle.refl_types.proofs.TlvFacts.{known_none, known_small, known_low, known_high, known_joined}
 use Rattle.octet_format.proofs.Obeys.{Obeys, then_obeys, done_obeys, same_obeys, into_obeys, octet_obeys, FitsOctet, Within, range_obeys, u16_obeys, u64_obeys, octets_obeys, zeros_obeys}
 
 -- ---- addresses
@@ -530,35 +531,68 @@ made_same c =
     ∙ ap (λ (x : Clock). let y : ConfigParts = record { stateful = c.stateful; clock = x; offset = c.offset; synced = has_bit (config_flags c) 8; scale = c.scale; multiplier = c.multiplier; info = c.info; tlvs = c.tlvs; key = c.key } in y) k
     ∙ ap (λ (x : Bool). let y : ConfigParts = record { stateful = c.stateful; clock = c.clock; offset = c.offset; synced = x; scale = c.scale; multiplier = c.multiplier; info = c.info; tlvs = c.tlvs; key = c.key } in y) b.3
 
-abbrev ConfigFit : ConfigParts → Type 0
-ConfigFit c = Within 0 15 (config_flags c) × (Within 0 255 c.offset × (Within 0 63 c.scale × (Within 1 255 c.multiplier × (IsArray 4 c.info × (Unit {0} × (FitsOctet are_known_tlvs c.tlvs × (BlockFits (has_bit (config_flags c) 4) c.key × (made_config (config_flags c) c.offset c.scale c.multiplier c.info c.tlvs c.key ≡ c))))))))
+-- ---- TLV types
 
-abbrev config_text : ConfigParts → List ℕ
-config_text c = (config_flags c ∷ []) ++ ((c.offset ∷ []) ++ ((c.scale ∷ []) ++ ((c.multiplier ∷ []) ++ (c.info ++ (replicate 3 0 ++ ((c.tlvs ∷ []) ++ (block_octets c.key ++ [])))))))
+abbrev third : ℕ → ℕ
+third n = n / 256
 
-low_number : (n : ℕ) → n < 256 → 0 ∷ 0 ∷ 0 ∷ n ∷ [] ≡ to_be_bytes w32 n
+abbrev TlvsFit : ℕ → Type 0
+TlvsFit n = Unit {0} × (FitsOctet (λ b. are_known_tlvs (b * 256)) (third n) × (FitsOctet are_known_tlvs (n % 256) × (third n * 256 + n % 256 ≡ n)))
+
+pub record FitTlvs (n : ℕ) : Type 0 where
+  pub known : are_known_tlvs n ≡ true
+  pub range : n < 2 ^ 32
+
+low_number : (n : ℕ) → n < 65536 → 0 ∷ 0 ∷ n / 256 ∷ n % 256 ∷ [] ≡ to_be_bytes w32 n
 low_number n lt =
     let a : n / 16777216 % 256 ≡ 0 = omega arith in
     let b : n / 65536 % 256 ≡ 0 = omega arith in
-    let c : n / 256 % 256 ≡ 0 = omega arith in
-    let d : n % 256 ≡ n = omega arith in
-    rw (a, b, c, d) refl
+    let c : n / 256 % 256 ≡ n / 256 = omega arith in
+    rw (a, b, c) refl
+
+tlvs_fit : (n : ℕ) → TlvsFit n → FitTlvs n × (replicate 2 0 ++ ((third n ∷ []) ++ ((n % 256 ∷ []) ++ [])) ≡ to_be_bytes w32 n)
+tlvs_fit n f =
+    let lt : n < 65536 = omega (arith, f.1.0.1) in
+    let known : are_known_tlvs n ≡ true = subst (λ (x : ℕ). are_known_tlvs x ≡ true) f.1.1.1 (known_joined (third n) (n % 256) (omega arith) f.1.0.0 f.1.1.0.0) in
+    (record { known = known; range = omega (arith, lt) }, low_number n lt)
+
+tlvs_back : (n : ℕ) → FitTlvs n → TlvsFit n
+tlvs_back n f =
+    let small = known_small n f.range f.known in
+    (tt, ((known_high n f.known, omega (arith, small)), ((known_low n f.known, omega arith), omega arith)))
+
+tlvs_obeys : Obeys tlvs_at (to_be_bytes w32) FitTlvs
+unfolding tlvs_at
+tlvs_obeys = same_obeys tlvs_at (λ n. replicate 2 0 ++ ((third n ∷ []) ++ ((n % 256 ∷ []) ++ []))) (to_be_bytes w32) TlvsFit FitTlvs
+    (then_obeys _ _ _ (λ (n : ℕ). tt) _ _ _ (zeros_obeys 2)
+    (λ z fz. then_obeys _ _ _ third _ _ _ (octet_obeys (λ b. are_known_tlvs (b * 256)) 0 (known_high 0 known_none, omega arith))
+    (λ h fh. then_obeys _ _ _ (λ (n : ℕ). n % 256) _ _ _ (octet_obeys are_known_tlvs 0 (known_none, omega arith))
+    (λ l fl. done_obeys (h * 256 + l))
+    (λ l n fl fn. omega (arith, fl.1, fn)))
+    (λ h n fh fn. omega (arith, fn.1)))
+    (λ z n fz fn. refl))
+    tlvs_fit tlvs_back
+
+-- ---- configurations
+
+abbrev ConfigFit : ConfigParts → Type 0
+ConfigFit c = Within 0 15 (config_flags c) × (Within 0 255 c.offset × (Within 0 63 c.scale × (Within 1 255 c.multiplier × (IsArray 4 c.info × (FitTlvs c.tlvs × (BlockFits (has_bit (config_flags c) 4) c.key × (made_config (config_flags c) c.offset c.scale c.multiplier c.info c.tlvs c.key ≡ c)))))))
+
+abbrev config_text : ConfigParts → List ℕ
+config_text c = (config_flags c ∷ []) ++ ((c.offset ∷ []) ++ ((c.scale ∷ []) ++ ((c.multiplier ∷ []) ++ (c.info ++ (to_be_bytes w32 c.tlvs ++ (block_octets c.key ++ []))))))
 
 config_fits : (c : ConfigParts) → ConfigFit c → FitsConfig c × (config_text c ≡ config_octets c)
 config_fits c f =
-    let t = f.1.1.1.1.1.1.0 in (
-      record { is_config = record { multiplier = f.1.1.1.0.0; scale = f.1.1.0.1; tlvs = t.0 }; offset = omega (arith, f.1.0.1); multiplier = omega (arith, f.1.1.1.0.1); info = f.1.1.1.1.0; block = f.1.1.1.1.1.1.1.0.1 },
-      ap (λ (r : List ℕ). config_flags c ∷ c.offset ∷ c.scale ∷ c.multiplier ∷ (c.info ++ r)) (ap (λ (n : List ℕ). n ++ (block_octets c.key ++ [])) (low_number c.tlvs t.1) ∙ ap (λ (r : List ℕ). to_be_bytes w32 c.tlvs ++ r) (append-nil (block_octets c.key)))
+    let t = f.1.1.1.1.1.0 in (
+      record { is_config = record { multiplier = f.1.1.1.0.0; scale = f.1.1.0.1; tlvs = t.known }; offset = omega (arith, f.1.0.1); multiplier = omega (arith, f.1.1.1.0.1); info = f.1.1.1.1.0; tlvs = t.range; block = f.1.1.1.1.1.1.0.1 },
+      ap (λ (r : List ℕ). config_flags c ∷ c.offset ∷ c.scale ∷ c.multiplier ∷ (c.info ++ (to_be_bytes w32 c.tlvs ++ r))) (append-nil (block_octets c.key))
           ∙ ap (λ (r : List ℕ). config_flags c ∷ c.offset ∷ c.scale ∷ c.multiplier ∷ r) (sym (append_assoc c.info (to_be_bytes w32 c.tlvs) (block_octets c.key))),
     )
-
-tlvs_below : (n : ℕ) → are_known_tlvs n ≡ true → n < 256
-tlvs_below n e = grind (arith, nat_tests)
 
 config_back : (c : ConfigParts) → FitsConfig c → ConfigFit c
 config_back c f =
     let b = bits c.stateful (is_ptp c.clock) (has c.key) c.synced in
-    (four_within c.stateful (is_ptp c.clock) (has c.key) c.synced, ((omega arith, omega (arith, f.offset)), ((omega arith, f.is_config.scale), ((f.is_config.multiplier, omega (arith, f.multiplier)), (f.info, (tt, ((f.is_config.tlvs, tlvs_below c.tlvs f.is_config.tlvs), ((sym b.2, f.block), made_same c))))))))
+    (four_within c.stateful (is_ptp c.clock) (has c.key) c.synced, ((omega arith, omega (arith, f.offset)), ((omega arith, f.is_config.scale), ((f.is_config.multiplier, omega (arith, f.multiplier)), (f.info, (record { known = f.is_config.tlvs; range = f.tlvs }, ((sym b.2, f.block), made_same c)))))))
 
 pub config_obeys : Obeys config_at config_octets FitsConfig
 unfolding config_at
@@ -568,18 +602,16 @@ config_obeys = same_obeys config_at config_text config_octets ConfigFit FitsConf
     (λ o fo. then_obeys _ _ _ (λ (c : ConfigParts). c.scale) _ _ _ (range_obeys 0 63 (omega arith) (omega arith))
     (λ s fs. then_obeys _ _ _ (λ (c : ConfigParts). c.multiplier) _ _ _ (range_obeys 1 255 (omega arith) (omega arith))
     (λ m fm. then_obeys _ _ _ (λ (c : ConfigParts). c.info) _ _ _ (octets_obeys 4)
-    (λ i fi. then_obeys _ _ _ (λ (c : ConfigParts). tt) _ _ _ (zeros_obeys 3)
-    (λ z fz. then_obeys _ _ _ (λ (c : ConfigParts). c.tlvs) _ _ _ (octet_obeys are_known_tlvs 0 (refl, omega arith))
+    (λ i fi. then_obeys _ _ _ (λ (c : ConfigParts). c.tlvs) _ _ _ tlvs_obeys
     (λ t ft. then_obeys _ _ _ (λ (c : ConfigParts). c.key) _ _ _ (block_obeys (has_bit f 4))
     (λ k fk. done_obeys (made_config f o s m i t k))
     (λ k c fk fc. ap (λ (x : ConfigParts). x.key) (sym fc)))
     (λ t c ft fc. ap (λ (x : ConfigParts). x.tlvs) (sym fc.1)))
-    (λ z c fz fc. refl))
-    (λ i c fi fc. ap (λ (x : ConfigParts). x.info) (sym fc.1.1.1)))
-    (λ m c fm fc. ap (λ (x : ConfigParts). x.multiplier) (sym fc.1.1.1.1)))
-    (λ s c fs fc. ap (λ (x : ConfigParts). x.scale) (sym fc.1.1.1.1.1)))
-    (λ o c fo fc. ap (λ (x : ConfigParts). x.offset) (sym fc.1.1.1.1.1.1)))
-    (λ f c ff fc. ap config_flags (sym fc.1.1.1.1.1.1.1) ∙ made_flags f c.offset c.scale c.multiplier c.info c.tlvs c.key ff fc.1.1.1.1.1.1.0.0))
+    (λ i c fi fc. ap (λ (x : ConfigParts). x.info) (sym fc.1.1)))
+    (λ m c fm fc. ap (λ (x : ConfigParts). x.multiplier) (sym fc.1.1.1)))
+    (λ s c fs fc. ap (λ (x : ConfigParts). x.scale) (sym fc.1.1.1.1)))
+    (λ o c fo fc. ap (λ (x : ConfigParts). x.offset) (sym fc.1.1.1.1.1)))
+    (λ f c ff fc. ap config_flags (sym fc.1.1.1.1.1.1) ∙ made_flags f c.offset c.scale c.multiplier c.info c.tlvs c.key ff fc.1.1.1.1.1.0.0))
     config_fits config_back
 
 -- ---- records

@@ -83,6 +83,14 @@ block_at false octets = zeros_at 64 octets >>= λ z. Ok (None, z.1)
 abbrev pub has_bit : ℕ → ℕ → Bool
 has_bit n weight = n / weight % 2 == 1
 
+-- four octets, of which two are zeros: each bit that is set is that of a type that may be supported
+unfoldable pub tlvs_at : List ℕ → Result (ℕ × List ℕ) Unread
+tlvs_at octets = do
+  zeros ← zeros_at 2 octets
+  high ← octet_at (λ b. are_known_tlvs (b * 256)) zeros.1
+  low ← octet_at are_known_tlvs high.1
+  Ok (high.0 * 256 + low.0, low.1)
+
 unfoldable pub config_at : List ℕ → Result (ConfigParts × List ℕ) Unread
 config_at octets = do
   flags ← octet_in 0 15 octets
@@ -90,8 +98,7 @@ config_at octets = do
   scale ← octet_in 0 63 offset.1
   multiplier ← octet_in 1 255 scale.1
   info ← octets_at 4 multiplier.1
-  high ← zeros_at 3 info.1
-  tlvs ← octet_at are_known_tlvs high.1
+  tlvs ← tlvs_at info.1
   key ← block_at (has_bit flags.0 4) tlvs.1
   Ok (record { stateful = has_bit flags.0 1; clock = (if has_bit flags.0 2 then Ptp else Ntp); offset = offset.0; synced = has_bit flags.0 8; scale = scale.0; multiplier = multiplier.0; info = info.0; tlvs = tlvs.0; key = key.0 }, key.1)
 

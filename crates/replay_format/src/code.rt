@@ -17,3 +17,5 @@ pub const NO_SESSION: u8 = 1;
 pub const SHORT: u8 = 2;
 /// The HMAC of the base packet is another.
 pub const BAD_HMAC: u8 = 3;
+/// Its sender asked for no reply.
+pub const NO_REPLY: u8 = 7;

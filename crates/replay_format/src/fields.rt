@@ -1,12 +1,12 @@
 //! The parts of a record are read from left to right. Each reader gives its part and the octets after it.
 
-ghost use Rattle.std.specs.Prelude.{◌≡◌, ◌<◌, ◌≤◌, true, IfOk};
+ghost use Rattle.std.specs.Prelude.{◌≡◌, ◌*◌, ◌<◌, ◌≤◌, true, IfOk};
 ghost use Rattle.octet_format.specs.Reading.{Gives, octet_at};
 ghost use Rattle.refl_types.specs.Configs.{are_known_tlvs, IsConfig};
-ghost use Rattle.replay_format.specs.Reading.{address_at, endpoint_at, body_len_at, ttl_at, ssid_at, key_at, extra_at, block_at, config_at};
+ghost use Rattle.replay_format.specs.Reading.{address_at, endpoint_at, body_len_at, ttl_at, ssid_at, key_at, extra_at, tlvs_at, block_at, config_at};
 
 use octet_format::{Unread, array4_at, array16_at, array64_at, octet_in, u16_at, zeros_at};
-use refl_types::{Address, Clock, ConfigParts, Endpoint, Extra, Key, Mode};
+use refl_types::{Address, Clock, ConfigParts, Endpoint, Extra, Key, Mode, are_known_tlvs};
 
 #[tactic(auto, unfolding(crate::specs::Reading::address_at))]
 fn address_at(octets: &[u8]) -> Result<(Address, &[u8]), Unread>
@@ -129,21 +129,35 @@ pub fn extra_at(mode: Mode, octets: &[u8]) -> Result<(Extra, &[u8]), Unread>
     }
 }
 
-/// One octet that names no TLV type but 3 and 5.
-fn tlvs_at(octets: &[u8]) -> Result<(u8, &[u8]), Unread>
-    ensures known { IfOk result (λ x. are_known_tlvs x.0 ≡ true) }
-    ensures value { Gives (λ x. (x.0, x.1.now)) result (octet_at are_known_tlvs octets.now) }
+/// One octet of a number whose bits name TLV types, where it has a weight of 1 or 256.
+fn tlvs_octet_at(weight: u16, octets: &[u8]) -> Result<(u8, &[u8]), Unread>
+    requires { weight ≤ 256 }
+    ensures range { IfOk result (λ x. x.0 < 256) }
+    ensures known { IfOk result (λ x. are_known_tlvs (x.0 * weight) ≡ true) }
+    ensures value { Gives (λ x. (x.0, x.1.now)) result (octet_at (λ b. are_known_tlvs (b * weight)) octets.now) }
 {
     match octets {
         [] => Err(Unread::More),
         [b, rest @ ..] => {
-            if *b == *b / 8 % 2 * 8 + *b / 32 % 2 * 32 {
+            if are_known_tlvs(u32::from(*b) * u32::from(weight)) {
                 Ok((*b, rest))
             } else {
                 Err(Unread::Bad)
             }
         }
     }
+}
+
+/// Four octets whose bits name no TLV type but such as may be supported.
+#[tactic(auto, unfolding(crate::specs::Reading::tlvs_at))]
+fn tlvs_at(octets: &[u8]) -> Result<(u32, &[u8]), Unread>
+    ensures known { IfOk result (λ x. are_known_tlvs x.0 ≡ true) }
+    ensures value { Gives (λ x. (x.0, x.1.now)) result (tlvs_at octets.now) }
+{
+    let rest = zeros_at(2, octets)?;
+    let (high, rest) = tlvs_octet_at(256, rest)?;
+    let (low, rest) = tlvs_octet_at(1, rest)?;
+    Ok((u32::from(high) * 256 + u32::from(low), rest))
 }
 
 #[tactic(auto, unfolding(crate::specs::Reading::block_at))]
@@ -169,7 +183,6 @@ pub fn config_parts_at(octets: &[u8]) -> Result<(ConfigParts, &[u8]), Unread>
     let (scale, rest) = octet_in(0, 63, rest)?;
     let (multiplier, rest) = octet_in(1, 255, rest)?;
     let (info, rest) = array4_at(rest)?;
-    let rest = zeros_at(3, rest)?;
     let (tlvs, rest) = tlvs_at(rest)?;
     let (key, rest) = block_at((flags / 4) % 2 == 1, rest)?;
     let parts = ConfigParts {
@@ -184,7 +197,7 @@ pub fn config_parts_at(octets: &[u8]) -> Result<(ConfigParts, &[u8]), Unread>
         scale,
         multiplier,
         info,
-        tlvs: u32::from(tlvs),
+        tlvs,
         key,
     };
     Ok((parts, rest))

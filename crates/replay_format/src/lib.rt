@@ -9,6 +9,8 @@ mod record;
 mod whole;
 
 pub use answer::{Outcome, REPLY_AT, frame_reply, write_outcome};
-pub use code::{BAD_HMAC, DUPLICATE, FULL, MODE_CLASH, NO_KEY, NO_SESSION, OPENED, SHORT};
+pub use code::{
+    BAD_HMAC, DUPLICATE, FULL, MODE_CLASH, NO_KEY, NO_REPLY, NO_SESSION, OPENED, SHORT,
+};
 pub use record::{Parsed, Record, one_record, read_record};
-pub use whole::{read_datagram, read_ipv4_datagram};
+pub use whole::{read_datagram, read_ipv4_datagram, read_ipv6_datagram};

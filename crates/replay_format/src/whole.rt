@@ -16,6 +16,14 @@ use refl_types::{Address, Endpoint, Meta};
 /// Octets of a record before the datagram's own.
 const HEAD: usize = 44;
 
+/// The family of the peers whose datagrams are asked for.
+#[derive(Clone, Copy, Debug, PartialEq, Eq)]
+enum Family {
+    Any,
+    Ipv4,
+    Ipv6,
+}
+
 /// What stands in the octets 26 and 27: whether the TTL is told, and the TTL.
 fn ttl_of(told: u8, ttl: u8) -> Option<Option<u8>>
     ensures some { IfSome result (λ t. told ∷ ttl ∷ [] ≡ ttl_octets t) }
@@ -41,23 +49,26 @@ fn has_zeros(octets: &[u8]) -> bool
     last == 0
 }
 
-/// The address in the octets 7 to 23, of IPv4 alone where that is asked.
+/// The address in the octets 7 to 23, if it is of the family that is asked for.
 #[inline(always)]
-fn address_of(octets: &[u8], ipv4_alone: bool) -> Option<Address>
+fn address_of(octets: &[u8], asked: Family) -> Option<Address>
     requires { 44 ≤ length octets.now }
     ensures some { IfSome result (HasAddress octets.now) }
-    ensures asked { IfSome result (IsAsked ipv4_alone) }
-    ensures none { result ≡ None → (a : addresses.Address) → HasAddress octets.now a → IsAsked ipv4_alone a → ⊥ }
+    ensures asked { IfSome result (IsAsked asked) }
+    ensures none { result ≡ None → (a : addresses.Address) → HasAddress octets.now a → IsAsked asked a → ⊥ }
 {
     match octets[7] {
         4 => {
+            if let Family::Ipv6 = asked {
+                return None;
+            }
             if !has_zeros(octets) {
                 return None;
             }
             Some(Address::V4(field4(octets, 8)))
         }
         6 => {
-            if ipv4_alone {
+            if let Family::Ipv4 = asked {
                 return None;
             }
             Some(Address::V6(field16(octets, 8)))
@@ -68,13 +79,13 @@ fn address_of(octets: &[u8], ipv4_alone: bool) -> Option<Address>
 
 /// What is told of the datagram, where 44 octets and those that it has stand at the front.
 #[inline(always)]
-fn meta_of(octets: &[u8], ipv4_alone: bool, len: usize) -> Option<Meta>
+fn meta_of(octets: &[u8], asked: Family, len: usize) -> Option<Meta>
     requires { 44 ≤ length octets.now }
     ensures some { IfSome result (λ m. HasHead octets.now m len) }
-    ensures asked { IfSome result (λ m. IsAsked ipv4_alone m.peer.address) }
-    ensures none { result ≡ None → (m : metas.Meta) → HasHead octets.now m len → IsAsked ipv4_alone m.peer.address → ⊥ }
+    ensures asked { IfSome result (λ m. IsAsked asked m.peer.address) }
+    ensures none { result ≡ None → (m : metas.Meta) → HasHead octets.now m len → IsAsked asked m.peer.address → ⊥ }
 {
-    let address = address_of(octets, ipv4_alone)?;
+    let address = address_of(octets, asked)?;
     let ttl = ttl_of(octets[26], octets[27])?;
     Some(Meta {
         local: u16::from_be_bytes(field2(octets, 5)),
@@ -89,11 +100,11 @@ fn meta_of(octets: &[u8], ipv4_alone: bool, len: usize) -> Option<Meta>
 }
 
 #[inline(always)]
-fn datagram_from(octets: &[u8], ipv4_alone: bool) -> Option<(Meta, u64, &[u8], usize)>
+fn datagram_from(octets: &[u8], asked: Family) -> Option<(Meta, u64, &[u8], usize)>
     ensures front { IfSome result (λ x. IsFront octets.now (Arrives (datagram_of x.0 x.1 x.2.now)) x.3) }
     ensures measured { IfSome result (λ x. x.0.len ≡ length x.2.now) }
-    ensures asked { IfSome result (λ x. IsAsked ipv4_alone x.0.peer.address) }
-    ensures none { result ≡ None → (d : Datagram) (n : ℕ) → IsFront octets.now (Arrives d) n → IsAsked ipv4_alone d.peer.address → ⊥ }
+    ensures asked { IfSome result (λ x. IsAsked asked x.0.peer.address) }
+    ensures none { result ≡ None → (d : Datagram) (n : ℕ) → IsFront octets.now (Arrives d) n → IsAsked asked d.peer.address → ⊥ }
 {
     if octets.len() < HEAD || octets[0] != DATAGRAM_TAG {
         return None;
@@ -103,19 +114,20 @@ fn datagram_from(octets: &[u8], ipv4_alone: bool) -> Option<(Meta, u64, &[u8], u
         return None;
     }
     let len = body - DATAGRAM_FIELDS;
-    let meta = meta_of(octets, ipv4_alone, len)?;
+    let meta = meta_of(octets, asked, len)?;
     let t3 = u64::from_be_bytes(field8(octets, 36));
     Some((meta, t3, &octets[HEAD..HEAD + len], HEAD + len))
 }
 
 /// Reads the record of a datagram, where one stands whole at the front: what is told of the datagram, the moment of its
 /// reply in nanoseconds since the start of 1970, its octets, and how many octets the record has.
+#[inline(always)]
 pub fn read_datagram(octets: &[u8]) -> Option<(Meta, u64, &[u8], usize)>
     ensures front { IfSome result (λ x. IsFront octets.now (Arrives (datagram_of x.0 x.1 x.2.now)) x.3) }
     ensures measured { IfSome result (λ x. x.0.len ≡ length x.2.now) }
     ensures none { result ≡ None → (d : Datagram) (n : ℕ) → IsFront octets.now (Arrives d) n → ⊥ }
 {
-    datagram_from(octets, false)
+    datagram_from(octets, Family::Any)
 }
 
 /// Reads the record of a datagram as `read_datagram` does, where its peer has an IPv4 address.
@@ -126,5 +138,16 @@ pub fn read_ipv4_datagram(octets: &[u8]) -> Option<(Meta, u64, &[u8], usize)>
     ensures family { IfSome result (λ x. family x.0.peer.address ≡ 4) }
     ensures none { result ≡ None → (d : Datagram) (n : ℕ) → IsFront octets.now (Arrives d) n → family d.peer.address ≡ 4 → ⊥ }
 {
-    datagram_from(octets, true)
+    datagram_from(octets, Family::Ipv4)
+}
+
+/// Reads the record of a datagram as `read_datagram` does, where its peer has an IPv6 address.
+#[inline(always)]
+pub fn read_ipv6_datagram(octets: &[u8]) -> Option<(Meta, u64, &[u8], usize)>
+    ensures front { IfSome result (λ x. IsFront octets.now (Arrives (datagram_of x.0 x.1 x.2.now)) x.3) }
+    ensures measured { IfSome result (λ x. x.0.len ≡ length x.2.now) }
+    ensures family { IfSome result (λ x. family x.0.peer.address ≡ 6) }
+    ensures none { result ≡ None → (d : Datagram) (n : ℕ) → IsFront octets.now (Arrives d) n → family d.peer.address ≡ 6 → ⊥ }
+{
+    datagram_from(octets, Family::Ipv6)
 }

@@ -1,3 +1,5 @@
 pub mod TableFacts
 pub mod AnswerFacts
+pub mod PlaceFacts
 pub mod ReplyFacts
+pub mod EndFacts

@@ -1,11 +1,12 @@
 -- What the code keeps of a table answers as the table does.
 use Rattle.std.proofs.Common.{◌≡◌, ℕ, zero, suc, ◌+◌, ◌%◌, ◌^◌, ◌<◌, ◌≤◌, Bool, true, false, cond, ◌&&◌, not, eqb, List, [], ◌∷◌, ◌++◌, length, get_or, Option, Some, None, refl, sym, ap, ◌∙◌, arith}
+use Rattle.std.specs.Prelude.{IsSome}
 use Rattle.std.proofs.Math.ListN.{set}
 use Rattle.std.specs.List.{list_any, position, position_or_len}
 use Rattle.std.proofs.lemmas.Bool.{ltb-false}
 use Rattle.std.proofs.lemmas.List.Sums.{prefix_len_passes}
 use Rattle.refl_types.specs.declared.types.Address.TheVariants.{V4}
-use Rattle.refl_types.specs.declared.types.Mode.TheVariants.{Plain}
+use Rattle.refl_types.specs.declared.types.Mode.TheVariants.{Plain, Auth}
 use Rattle.refl_types.specs.declared.config.Clock.TheVariants.{Ntp}
 use Rattle.refl_types.specs.declared.config.ConfigParts.{ConfigParts}
 use Rattle.refl_types.specs.declared.types.Key.{Key}
@@ -13,11 +14,10 @@ use Rattle.refl_types.specs.Same.{same_endpoint, same_mode, same_key}
 use Rattle.refl_types.proofs.SameFacts.{key_same, same_key-refl}
 use Rattle.session_key.specs.declared.matching.Query.{Query}
 use Rattle.session_key.specs.Matching.{matches}
-use Rattle.hmac_sha256.specs.Hmac.{IsHashOf}
 use Rattle.reflect_core.specs.Judgement.{judgement}
 use Rattle.replay_table.specs.declared.session.Session.{Session}
 use Rattle.replay_table.specs.Table.{Entry, Table, is_bound, has_clash, session_for, with_entry, update, raised}
-use Rattle.replay_table.specs.Stands.{StandsFor, Stands, IsKeyed, AreKeyed}
+use Rattle.replay_table.specs.Stands.{StandsFor, Stands}
 
 -- a test of the key alone
 same_any : (p : Key → Bool) (ss : List Session) (t : Table) → Stands ss t → list_any (λ s. p s.key) ss ≡ list_any (λ e. p e.key) t
@@ -50,14 +50,17 @@ not_true : (b : Bool) → not b ≡ true → b ≡ false
 not_true true e = absurd cc
 not_true false e = refl
 
+pub plain_keyed : (key : Option (List ℕ)) → Plain ≡ Auth → IsSome key
+plain_keyed key e = cc
+
 -- a session to name where a list may be empty
 abbrev pub some_session : Session
 some_session = record {
   key = record { local = 0; peer = record { address = V4 []; port = 0 }; mode = Plain; ssid = 0 };
   extra = record { symmetrical = false; reflect = 0 };
   config = record { stateful = false; clock = Ntp; offset = 0; synced = false; scale = 0; multiplier = 0; info = []; tlvs = 0; key = None };
-  hash = None;
   count = 0;
+  keyed = plain_keyed None;
 }
 
 pub no_place : (q : Query) (ss : List Session) (d : Session) → position (λ s. matches q s.key) ss ≡ None → (k : ℕ) → k < length ss → matches q (get_or ss k d).key ≡ false
@@ -107,28 +110,8 @@ stands-at q (s ∷ ss) (e ∷ t) (suc i) d st below hit_here earlier =
         by_test false e = sym e
         by_test true e = absurd (let same : j ≡ k = key_same j k (sym e) in let c : true ≡ false = sym b ∙ ap (matches q) (sym same) ∙ a in cc)
 
-pub raised-count : (s : Session) (e : Entry) (n : ℕ) → StandsFor s e → n ≡ (s.count + 1) % 2 ^ 32 → StandsFor (record s { count = n }) (raised e)
-raised-count s e n st is = record { key = st.key; extra = st.extra; config = st.config; count = is ∙ omega (arith, st.count) }
-
--- ---- sessions of mode Auth have a key
-
-pub keyed-at : (ss : List Session) (i : ℕ) (d : Session) → AreKeyed ss → i < length ss → IsKeyed (get_or ss i d)
-keyed-at [] i d all below = absurd (omega arith)
-keyed-at (s ∷ ss) zero d all below = all.0
-keyed-at (s ∷ ss) (suc i) d all below = keyed-at ss i d all.1 (omega arith)
-
-pub keyed-set : (ss : List Session) (i : ℕ) (r : Session) → AreKeyed ss → IsKeyed r → AreKeyed (set ss i r)
-keyed-set [] i r all one = tt
-keyed-set (s ∷ ss) zero r all one = (one, all.1)
-keyed-set (s ∷ ss) (suc i) r all one = (all.0, keyed-set ss i r all.1 one)
-
-pub keyed-push : (ss : List Session) (r : Session) → AreKeyed ss → IsKeyed r → AreKeyed (ss ++ r ∷ [])
-keyed-push [] r all one = (one, tt)
-keyed-push (s ∷ ss) r all one = (all.0, keyed-push ss r all.1 one)
-
-pub hashed : (hash key : Option (List ℕ)) → hash ≡ key → IsHashOf hash key
-hashed None key e = tt
-hashed (Some h) key e = sym e
+pub raised-count : (s r : Session) (e : Entry) → StandsFor s e → r.key ≡ s.key → r.extra ≡ s.extra → r.config ≡ s.config → r.count ≡ (s.count + 1) % 2 ^ 32 → StandsFor r (raised e)
+raised-count s r e st key extra config is = record { key = key ∙ st.key; extra = extra ∙ st.extra; config = config ∙ st.config; count = is ∙ omega (arith, st.count) }
 
 pub judged-same : (s : Session) (e : Entry) (octets : List ℕ) → StandsFor s e → judgement e.key.mode e.config octets ≡ judgement s.key.mode s.config octets
 judged-same s e octets st =

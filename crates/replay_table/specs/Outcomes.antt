@@ -2,7 +2,7 @@
 use Rattle.std.specs.Prelude.{ℕ, Bool, ◌&&◌, ◌==◌, not, List, [], ◌∷◌, ◌++◌, length, Option, Some, None, if◌then◌else◌}
 use Rattle.refl_types.specs.declared.types.Mode.TheVariants.{Auth}
 use Rattle.refl_types.specs.declared.outcome.Silent as causes
-use Rattle.refl_types.specs.declared.outcome.Silent.TheVariants.{Short, BadHmac}
+use Rattle.refl_types.specs.declared.outcome.Silent.TheVariants.{Short, BadHmac, NoReply}
 use Rattle.refl_types.specs.Spelling.{has}
 use Rattle.reflect_core.specs.declared.judging.Judged.{Judged}
 use Rattle.reflect_core.specs.declared.judging.Judged.TheVariants.{Reflect, Silent}
@@ -42,6 +42,7 @@ session_of t d = session_for (query_of d.local d.peer d.octets) t
 abbrev pub silent_code : causes.Silent → ℕ
 silent_code Short = 2
 silent_code BadHmac = 3
+silent_code NoReply = 7
 
 abbrev pub judged_answer : Judged → Entry → Datagram → Answer
 judged_answer (Silent cause) e d = Unsent (silent_code cause)

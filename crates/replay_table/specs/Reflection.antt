@@ -16,4 +16,4 @@ sent_under n r = record { from = r.from; to = r.to; number = n; octets = r.octet
 
 -- the number is the count modulo 2^32
 unfoldable pub sending : Entry → Datagram → Sending
-sending e d = sent_under (e.count % 2 ^ 32) (reflection e.key e.extra e.config (e.count % 2 ^ 32) (meta_of d) d.t3 d.octets)
+sending e d = sent_under (e.count % 2 ^ 32) (reflection e.key e.extra e.config (record { number = e.count % 2 ^ 32; sending = d.t3 }) (record { meta = meta_of d; octets = d.octets }))

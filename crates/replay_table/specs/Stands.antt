@@ -1,6 +1,6 @@
 -- What the code keeps of a table stands for the table: its counts are those of the table modulo 2^32.
 use Rattle.std.specs.Prelude.{ℕ, ◌≡◌, ◌≤◌, ◌%◌, ◌^◌, List, [], ◌∷◌, ◌++◌, length, drop}
-use Rattle.reflect_core.specs.Judgement.{HasKey, judgement}
+use Rattle.reflect_core.specs.Judgement.{judgement}
 use Rattle.reflect_core.specs.declared.judging.Judged.TheVariants.{Reflect}
 use Rattle.replay_format.specs.Records.{Item, Datagram}
 use Rattle.replay_format.specs.Answers.{Sent, answer_octets}
@@ -21,18 +21,8 @@ Stands [] (e ∷ t) = ⊥
 Stands (s ∷ ss) [] = ⊥
 Stands (s ∷ ss) (e ∷ t) = StandsFor s e × Stands ss t
 
--- a session of mode Auth has an HMAC key, and each session keeps the hashed blocks of its key
-pub record IsKeyed (s : Session) : Type 0 where
-  pub key : HasKey s.key.mode s.config
-  pub hash : s.hash ≡ s.config.key
-
-abbrev pub AreKeyed : List Session → Type 0
-AreKeyed [] = Unit {0}
-AreKeyed (s ∷ ss) = IsKeyed s × AreKeyed ss
-
 -- a datagram of the session that is reflected
 pub record IsReflected (s : Session) (octets : List ℕ) : Type 0 where
-  pub keyed : IsKeyed s
   pub judged : judgement s.key.mode s.config octets ≡ Reflect
   pub limit : length octets ≤ 65507
 

@@ -7,7 +7,7 @@ ghost use Rattle.replay_table.specs.Stands.{IsReflected, IsSent};
 use crate::session::Session;
 use crate::sessions::ANSWER_ROOM;
 use refl_types::{Meta, Mode};
-use reflect_core::reflect_by;
+use reflect_core::{Datagram, Draw};
 use replay_format::{REPLY_AT, frame_reply};
 
 /// Writes the answer to a datagram that is reflected, reply included, and says how many octets it has.
@@ -18,29 +18,39 @@ fn write_here(session: &Session, meta: &Meta, t3: u64, octets: &[u8], out: &mut 
     requires room { ANSWER_ROOM ≤ length out.old }
     ensures { IsSent session.now (datagram_of meta.now t3 octets.now) out.old out.new result }
 {
-    let reply = reflect_by(
-        &session.key,
-        &session.extra,
-        &session.config,
-        &session.hash,
-        session.count,
-        meta,
-        t3,
-        octets,
-        &mut out[REPLY_AT..],
-    );
+    let datagram = Datagram { meta, octets };
+    let draw = Draw {
+        number: session.count,
+        sending: t3,
+    };
+    let reply = session
+        .reflector()
+        .reflect(&datagram, &draw, &mut out[REPLY_AT..]);
     frame_reply(reply.from, &reply.to, session.count, reply.len, out);
     REPLY_AT + reply.len
 }
 
-/// The same, out of line.
+/// The same, out of line. A datagram's ends are its session's.
 #[inline(never)]
-fn write_apart(session: &Session, meta: Meta, t3: u64, octets: &[u8], out: &mut [u8]) -> usize
+fn write_apart(
+    session: &Session,
+    ttl: Option<u8>,
+    arrival: u64,
+    t3: u64,
+    octets: &[u8],
+    out: &mut [u8],
+) -> usize
     requires reflected { IsReflected session.now octets.now }
-    requires measured { meta.len ≡ length octets.now }
     requires room { ANSWER_ROOM ≤ length out.old }
-    ensures { IsSent session.now (datagram_of meta t3 octets.now) out.old out.new result }
+    ensures { IsSent session.now (datagram_of (record { local = session.now.key.local; peer = session.now.key.peer; len = length octets.now; ttl = ttl; arrival = arrival }) t3 octets.now) out.old out.new result }
 {
+    let meta = Meta {
+        local: session.key.local,
+        peer: session.key.peer,
+        len: octets.len(),
+        ttl,
+        arrival,
+    };
     write_here(session, &meta, t3, octets, out)
 }
 
@@ -54,6 +64,8 @@ pub fn write_reflection(
     out: &mut [u8],
 ) -> usize
     requires reflected { IsReflected session.now octets.now }
+    requires local { meta.now.local ≡ session.now.key.local }
+    requires peer { meta.now.peer ≡ session.now.key.peer }
     requires measured { meta.now.len ≡ length octets.now }
     requires room { ANSWER_ROOM ≤ length out.old }
     ensures { IsSent session.now (datagram_of meta.now t3 octets.now) out.old out.new result }
@@ -61,6 +73,8 @@ pub fn write_reflection(
     match session.key.mode {
         // Most sessions are of this mode.
         Mode::Plain => write_here(session, meta, t3, octets, out),
-        Mode::Auth | Mode::Twamp => write_apart(session, *meta, t3, octets, out),
+        Mode::Auth | Mode::Twamp => {
+            write_apart(session, meta.ttl, meta.arrival, t3, octets, out)
+        },
     }
 }

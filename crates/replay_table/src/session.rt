@@ -1,27 +1,35 @@
 //! A session as a replay keeps it.
 
-ghost use Rattle.std.specs.Prelude.{◌≡◌};
+ghost use Rattle.std.specs.Prelude.{◌≡◌, IsSome};
+ghost use Rattle.refl_types.specs.declared.types.Mode.TheVariants.{Auth};
 
-use hmac_sha256::KeyedHash;
-use refl_types::{Config, Extra, Key};
+use keyed_config::KeyedConfig;
+use refl_types::{Extra, Key};
 
 /// A session, with the count of numbers that it has drawn, modulo 2^32.
 #[derive(Drop)]
 pub struct Session {
     pub key: Key,
     pub extra: Extra,
-    pub config: Config,
-    /// The HMAC key, whose blocks are hashed once, when the session is opened.
-    pub hash: Option<KeyedHash>,
+    /// The configuration, whose HMAC key is hashed once, when the session is opened.
+    pub config: KeyedConfig,
     pub count: u32,
+    /// In mode Auth it has an HMAC key.
+    pub ghost keyed: { key.mode ≡ Auth → IsSome config.key },
 }
 
-/// The hashed blocks of the HMAC key, where there is one.
-pub fn hash_of(config: &Config) -> Option<KeyedHash>
-    ensures { result ≡ config.now.key }
-{
-    match &config.as_parts().key {
-        Some(block) => Some(KeyedHash::of(block)),
-        None => None,
+impl Session {
+    /// What judges and reflects its datagrams.
+    #[inline(always)]
+    pub fn reflector(&self) -> reflect_core::Session<'_>
+        ensures key { result.key.now ≡ self.now.key }
+        ensures extra { result.extra.now ≡ self.now.extra }
+        ensures config { result.config.now ≡ self.now.config }
+    {
+        reflect_core::Session {
+            key: &self.key,
+            extra: &self.extra,
+            config: &self.config,
+        }
     }
 }

@@ -8,17 +8,18 @@ ghost use Rattle.refl_types.specs.declared.types.Extra.{Extra};
 ghost use Rattle.replay_table.specs.Outcomes.{code_of, opening_code};
 ghost use Rattle.replay_format.specs.Records.{Opens, Arrives, datagram_of};
 ghost use Rattle.replay_format.specs.Answers.{Unsent, answer_octets};
-ghost use Rattle.reflect_core.specs.Judgement.{HasKey};
+ghost use Rattle.refl_types.specs.HmacKey.{HasHmacKey};
 ghost use Rattle.replay_table.specs.Table.{Table};
-ghost use Rattle.replay_table.specs.Stands.{Stands, IsAnswered, AreKeyed};
+ghost use Rattle.replay_table.specs.Stands.{Stands, IsAnswered};
 
 use crate::reply::write_reflection;
-use crate::session::{Session, hash_of};
+use crate::session::Session;
+use keyed_config::KeyedConfig;
 use refl_types::{Config, Extra, Key, Memory, Meta, Mode, Silent};
-use reflect_core::{Judged, judge_by};
+use reflect_core::Judged;
 use replay_format::{
-    BAD_HMAC, DUPLICATE, FULL, MODE_CLASH, NO_KEY, NO_SESSION, OPENED, Outcome, Record, SHORT,
-    write_outcome,
+    BAD_HMAC, DUPLICATE, FULL, MODE_CLASH, NO_KEY, NO_REPLY, NO_SESSION, OPENED, Outcome, Record,
+    SHORT, write_outcome,
 };
 use session_key::Query;
 use std::alloc::Global;
@@ -40,13 +41,12 @@ impl Model for Sessions {
     ghost use Rattle.std.specs.Prelude.{◌≤◌, List, vec_len, vec_capacity};
     ghost use Rattle.replay_table.specs.declared.session.Session.{Session};
     ghost use Rattle.replay_table.specs.declared.sessions.TheConstants.{SESSIONS};
-    ghost use Rattle.replay_table.specs.Stands.{AreKeyed};
 
     ghost Value = { List Session };
 
     ghost view = { λ s. s.list.items };
 
-    ghost invariant = { λ s. (vec_len s.list ≤ SESSIONS) × (SESSIONS ≤ vec_capacity s.list) × AreKeyed s.list.items };
+    ghost invariant = { λ s. (vec_len s.list ≤ SESSIONS) × (SESSIONS ≤ vec_capacity s.list) };
 }
 
 #[tactic(auto, unfolding(refl_types::specs::Same::same_key))]
@@ -81,7 +81,12 @@ fn place_of(list: &[Session], meta: &Meta, octets: &[u8]) -> Option<usize>
     ensures { result ≡ position (λ s. matches (query_of meta.now.local meta.now.peer octets.now) s.key) list.now }
 {
     let query = Query::of(meta, octets);
-    list.iter().position(|session| query.matches(&session.key))
+    for place in 0..list.len() {
+        if query.matches(&list[place].key) {
+            return Some(place);
+        }
+    }
+    None
 }
 
 /// The code of an opening, by what is known of its key.
@@ -89,7 +94,7 @@ fn place_of(list: &[Session], meta: &Meta, octets: &[u8]) -> Option<usize>
 fn code_of(bound: bool, clash: bool, count: usize, key: &Key, config: &Config) -> u8
     ensures value { (x : Extra) → result ≡ code_of bound clash count (record { key = key.now; extra = x; config = config.now }) }
     ensures room { result ≡ 0 → count ≢ SESSIONS }
-    ensures keyed { result ≡ 0 → HasKey key.now.mode config.now }
+    ensures keyed { result ≡ 0 → HasHmacKey key.now.mode config.now }
 {
     if bound {
         DUPLICATE
@@ -108,7 +113,7 @@ fn code_of(bound: bool, clash: bool, count: usize, key: &Key, config: &Config) -
 fn opening_code(list: &[Session], key: &Key, config: &Config) -> u8
     ensures value { (x : Extra) (t : Table) → Stands list.now t → result ≡ opening_code t (record { key = key.now; extra = x; config = config.now }) }
     ensures room { result ≡ 0 → length list.now ≢ SESSIONS }
-    ensures keyed { result ≡ 0 → HasKey key.now.mode config.now }
+    ensures keyed { result ≡ 0 → HasHmacKey key.now.mode config.now }
 {
     let bound = is_bound(list, key);
     let clash = has_clash(list, key);
@@ -142,11 +147,9 @@ fn write_unsent(cause: u8, out: &mut [u8]) -> usize
 /// Answers a datagram.
 #[inline(always)]
 fn arrive(list: &mut [Session], meta: &Meta, t3: u64, octets: &[u8], out: &mut [u8]) -> usize
-    requires keyed { AreKeyed list.old }
     requires measured { meta.now.len ≡ length octets.now }
     requires limit { length octets.now ≤ 65507 }
     requires room { ANSWER_ROOM ≤ length out.old }
-    ensures keyed { AreKeyed list.new }
     ensures fits { result ≤ 65538 }
     ensures answered { (t : Table) → Stands list.old t → IsAnswered t list.new (Arrives (datagram_of meta.now t3 octets.now)) out.old out.new result }
 {
@@ -154,9 +157,10 @@ fn arrive(list: &mut [Session], meta: &Meta, t3: u64, octets: &[u8], out: &mut [
         return write_unsent(NO_SESSION, out);
     };
     let session = &list[place];
-    match judge_by(&session.key, &session.config, &session.hash, octets) {
+    match session.reflector().judge(octets) {
         Judged::Silent(Silent::Short) => write_unsent(SHORT, out),
         Judged::Silent(Silent::BadHmac) => write_unsent(BAD_HMAC, out),
+        Judged::Silent(Silent::NoReply) => write_unsent(NO_REPLY, out),
         Judged::Reflect => {
             let len = write_reflection(session, meta, t3, octets, out);
             let session = &mut list[place];
@@ -168,12 +172,10 @@ fn arrive(list: &mut [Session], meta: &Meta, t3: u64, octets: &[u8], out: &mut [
 
 /// Answers an opening. The list has room for all sessions.
 fn open(list: &mut Vec<Session>, key: &Key, extra: &Extra, config: &Config, out: &mut [u8]) -> usize
-    requires keyed { AreKeyed list.old.items }
     requires out { ANSWER_ROOM ≤ length out.old }
     requires len { vec_len list.old ≤ SESSIONS }
     requires room { SESSIONS ≤ vec_capacity list.old }
     ensures answered { (t : Table) → Stands list.old.items t → IsAnswered t list.new.items (Opens (record { key = key.now; extra = extra.now; config = config.now })) out.old out.new result }
-    ensures keyed { AreKeyed list.new.items }
     ensures fits { result ≤ 65538 }
     ensures len { vec_len list.new ≤ SESSIONS }
     ensures room { SESSIONS ≤ vec_capacity list.new }
@@ -185,8 +187,7 @@ fn open(list: &mut Vec<Session>, key: &Key, extra: &Extra, config: &Config, out:
     let session = Session {
         key: *key,
         extra: *extra,
-        config: *config,
-        hash: hash_of(config),
+        config: KeyedConfig::of(config),
         count: 0,
     };
     keep(list, session);
@@ -220,6 +221,18 @@ impl Sessions {
         arrive(&mut self.list, meta, t3, octets, out)
     }
 
+    /// The same, out of line.
+    #[inline(never)]
+    pub fn arrive_apart(&mut self, meta: &Meta, t3: u64, octets: &[u8], out: &mut [u8]) -> usize
+        requires room { ANSWER_ROOM ≤ length out.old }
+        requires measured { meta.now.len ≡ length octets.now }
+        requires limit { length octets.now ≤ 65507 }
+        ensures answered { (t : Table) → Stands self.old t → IsAnswered t self.new (Arrives (datagram_of meta.now t3 octets.now)) out.old out.new result }
+        ensures fits { result ≤ 65538 }
+    {
+        arrive(&mut self.list, meta, t3, octets, out)
+    }
+
     /// Writes the answer to a record at the front, says how many octets it has, and keeps the table that the record
     /// leaves. Later octets stay.
     pub fn answer(&mut self, item: &Record, out: &mut [u8]) -> usize
@@ -231,7 +244,7 @@ impl Sessions {
     {
         match item {
             Record::Open { key, extra, config } => open(&mut self.list, key, extra, config, out),
-            Record::Datagram { meta, t3, octets } => { self.arrive(meta, *t3, octets, out) }
+            Record::Datagram { meta, t3, octets } => { self.arrive_apart(meta, *t3, octets, out) }
         }
     }
 }

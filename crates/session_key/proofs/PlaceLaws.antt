@@ -21,3 +21,10 @@ fnv_more hash now octet octets i lt e is =
 pub place_range : (local : ℕ) (peer : Endpoint) (slots : ℕ) → 0 < slots → place_of local peer slots < slots
 unfolding place_of
 place_range local peer slots h = omega (arith, h)
+
+pub fnv_two : (hash octet one all : ℕ) (a : List ℕ) → one ≡ fnv_from hash (octet ∷ []) → all ≡ fnv_from one a → all ≡ fnv_from hash (octet ∷ a)
+unfolding fnv_from
+fnv_two hash octet one all a e f = f ∙ ap (λ (n : ℕ). fnv_from n a) e
+
+pub fnv_three : (hash octet one two all : ℕ) (a b : List ℕ) → one ≡ fnv_from hash (octet ∷ []) → two ≡ fnv_from one a → all ≡ fnv_from two b → all ≡ fnv_from hash (octet ∷ (a ++ b))
+fnv_three hash octet one two all a b e f g = fnv_two hash octet one all (a ++ b) e (g ∙ ap (λ (n : ℕ). fnv_from n b) f ∙ sym (fnv_parts one a b))

@@ -1,9 +1,10 @@
 //! Which datagrams are of which session (RFC 8972, section 3).
 
 ghost use Rattle.std.specs.Prelude.{◌≡◌, ◌<◌, ◌^◌};
+ghost use Rattle.refl_types.specs.Same.{same_octets, same_address, same_endpoint};
 ghost use Rattle.session_key.specs.Matching.{ssid_at, query_of, agrees, matches};
 
-use refl_types::{Endpoint, Key, Meta, Mode};
+use refl_types::{Address, Endpoint, Key, Meta, Mode};
 
 /// What of a datagram is compared with keys.
 #[derive(Clone, Copy, Debug, PartialEq, Eq)]
@@ -32,6 +33,34 @@ fn ssid_at(at: usize, octets: &[u8]) -> Option<u16>
     Some(u16::from_be_bytes([ssid[0], ssid[1]]))
 }
 
+/// Whether the octets of two IPv6 addresses are the same.
+#[inline(always)]
+fn same_octets(a: &[u8; 16], b: &[u8; 16]) -> bool
+    ensures { result ≡ same_octets a.now b.now }
+{
+    a == b
+}
+
+/// Whether two addresses are the same.
+#[inline(always)]
+fn same_address(a: &Address, b: &Address) -> bool
+    ensures { result ≡ same_address a.now b.now }
+{
+    match (a, b) {
+        (Address::V4(x), Address::V4(y)) => x == y,
+        (Address::V6(x), Address::V6(y)) => same_octets(x, y),
+        _ => false,
+    }
+}
+
+/// Whether two endpoints are the same.
+#[inline(always)]
+fn same_endpoint(a: &Endpoint, b: &Endpoint) -> bool
+    ensures { result ≡ same_endpoint a.now b.now }
+{
+    a.port == b.port && same_address(&a.address, &b.address)
+}
+
 impl Query {
     /// The query of a datagram.
     #[inline]
@@ -48,7 +77,7 @@ impl Query {
     }
 
     /// Whether the SSID of the datagram is the key's, in the modes that have one.
-    #[inline]
+    #[inline(always)]
     fn agrees(&self, key: &Key) -> bool
         ensures { result ≡ agrees key.now.mode self.now key.now.ssid }
     {
@@ -60,13 +89,13 @@ impl Query {
     }
 
     /// Whether the datagram is one of the session with this key.
-    #[inline]
+    #[inline(always)]
     #[tactic(auto, unfolding(crate::specs::Matching::matches))]
     pub fn matches(&self, key: &Key) -> bool
         ensures { result ≡ matches self.now key.now }
     {
         // Sessions of one sender mostly differ in their SSID, so it is looked at first.
-        self.agrees(key) && self.local == key.local && self.peer == key.peer
+        self.agrees(key) && self.local == key.local && same_endpoint(&self.peer, &key.peer)
     }
 }
 

@@ -1,10 +1,9 @@
 //! Reading an authenticated request (RFC 8762, section 4.2.2).
 
-ghost use Rattle.std.specs.Prelude.{◌≡◌, ◌≤◌, IfOk, Some, length};
-ghost use Rattle.hmac_sha256.specs.Hmac.{IsHashOf};
+ghost use Rattle.std.specs.Prelude.{◌≡◌, ◌≤◌, IfOk, length};
 ghost use Rattle.stamp_auth.specs.Request.{IsAuthRequest, auth_sender_of, has_base_hmac, read_of};
 
-use hmac_sha256::{KeyedHash, mac128_by};
+use hmac_sha256::KeyedHash;
 use octet_format::{field2, field4, field8, field16};
 use stamp_packet::SenderBase;
 
@@ -24,13 +23,12 @@ pub enum AuthFault {
 }
 
 /// Whether the HMAC of a base packet is that of its first 96 octets.
-fn has_base_hmac(block: &[u8; 64], hash: &Option<KeyedHash>, octets: &[u8]) -> bool
-    requires hash { IsHashOf hash.now (Some block.now) }
-    requires long { 112 ≤ length octets.now }
-    ensures { result ≡ has_base_hmac block.now octets.now }
+fn has_base_hmac(key: &KeyedHash, octets: &[u8]) -> bool
+    requires { 112 ≤ length octets.now }
+    ensures { result ≡ has_base_hmac key.now octets.now }
 {
     let (covered, _) = octets.split_at(COVERED);
-    field16(octets, COVERED) == mac128_by(block, hash, covered, &[])
+    field16(octets, COVERED) == key.mac128(covered, &[])
 }
 
 /// The fields of a request at their places. Its HMAC isn't looked at.
@@ -54,23 +52,18 @@ pub fn read_auth(block: &[u8; 64], octets: &[u8]) -> Result<SenderBase, AuthFaul
     ensures value { result ≡ read_of block.now octets.now }
     ensures table { IfOk result (IsAuthRequest octets.now) }
 {
-    read_auth_by(block, &None, octets)
+    read_auth_keyed(&KeyedHash::of(block), octets)
 }
 
-/// The same, where the blocks of the key may be hashed already.
-pub fn read_auth_by(
-    block: &[u8; 64],
-    hash: &Option<KeyedHash>,
-    octets: &[u8],
-) -> Result<SenderBase, AuthFault>
-    requires { IsHashOf hash.now (Some block.now) }
-    ensures value { result ≡ read_of block.now octets.now }
+/// The same, under a key whose blocks are hashed.
+pub fn read_auth_keyed(key: &KeyedHash, octets: &[u8]) -> Result<SenderBase, AuthFault>
+    ensures value { result ≡ read_of key.now octets.now }
     ensures table { IfOk result (IsAuthRequest octets.now) }
 {
     if octets.len() < AUTH_LEN {
         return Err(AuthFault::Short);
     }
-    if !has_base_hmac(block, hash, octets) {
+    if !has_base_hmac(key, octets) {
         return Err(AuthFault::BadHmac);
     }
     Ok(auth_sender(octets))

@@ -1,10 +1,9 @@
 //! Writing an authenticated reply (RFC 8762, section 4.3.2).
 
-ghost use Rattle.std.specs.Prelude.{◌≡◌, ◌≤◌, ◌++◌, Some, length, take, drop};
-ghost use Rattle.hmac_sha256.specs.Hmac.{IsHashOf};
+ghost use Rattle.std.specs.Prelude.{◌≡◌, ◌≤◌, ◌++◌, length, take, drop};
 ghost use Rattle.stamp_auth.specs.Reply.{own_fields, copied_fields, auth_fields, auth_reply};
 
-use hmac_sha256::{KeyedHash, mac128_by};
+use hmac_sha256::KeyedHash;
 use octet_format::put;
 use stamp_packet::ReplyBase;
 
@@ -58,18 +57,17 @@ pub fn write_auth(block: &[u8; 64], reply: &ReplyBase, out: &mut [u8])
     requires { 112 ≤ length out.old }
     ensures { out.new ≡ auth_reply block.now reply.now ++ drop 112 out.old }
 {
-    write_auth_by(block, &None, reply, out);
+    write_auth_keyed(&KeyedHash::of(block), reply, out);
 }
 
-/// The same, where the blocks of the key may be hashed already.
-pub fn write_auth_by(block: &[u8; 64], hash: &Option<KeyedHash>, reply: &ReplyBase, out: &mut [u8])
-    requires hash { IsHashOf hash.now (Some block.now) }
-    requires room { 112 ≤ length out.old }
-    ensures { out.new ≡ auth_reply block.now reply.now ++ drop 112 out.old }
+/// The same, under a key whose blocks are hashed.
+pub fn write_auth_keyed(key: &KeyedHash, reply: &ReplyBase, out: &mut [u8])
+    requires { 112 ≤ length out.old }
+    ensures { out.new ≡ auth_reply key.now reply.now ++ drop 112 out.old }
 {
     write_fields(reply, out);
     let (covered, _) = out.split_at(COVERED);
-    let mac = mac128_by(block, hash, covered, &[]);
+    let mac = key.mac128(covered, &[]);
     put(out, COVERED, &mac);
 }
 

@@ -1,10 +1,11 @@
 //! The unauthenticated base packets, 44 octets (RFC 8762, sections 4.2.1 and 4.3.1; RFC 8972, section 3).
 
 ghost use Rattle.std.specs.Prelude.{◌≡◌, ◌≤◌, ◌++◌, length, drop, IfOk};
-ghost use Rattle.stamp_packet.specs.Plain.{read_of, IsRequest, plain_reply};
+ghost use Rattle.std.specs.Int.{w32, to_be_bytes};
+ghost use Rattle.stamp_packet.specs.Plain.{read_of, sender_of, IsRequest, plain_reply};
 
 use crate::fields::{ReplyBase, SenderBase, Short};
-use octet_format::{field2, field4, field8, put};
+use octet_format::{field2, field4, field8, put_array};
 
 /// Octets of a base packet.
 const PLAIN_LEN: usize = 44;
@@ -27,21 +28,58 @@ pub fn read_plain(octets: &[u8]) -> Result<SenderBase, Short>
     })
 }
 
-/// Writes a reply into the first 44 octets. All other octets stay.
+/// Writes a reply whose sender's number, timestamp and error estimate are given as octets.
 #[inline(always)]
+fn write_fields(
+    reply: &ReplyBase,
+    sequence: [u8; 4],
+    timestamp: [u8; 8],
+    error: [u8; 2],
+    out: &mut [u8],
+)
+    requires sequence { sequence ≡ to_be_bytes w32 reply.now.sender.sequence }
+    requires timestamp { timestamp ≡ reply.now.sender.timestamp }
+    requires error { error ≡ reply.now.sender.error }
+    requires room { 44 ≤ length out.old }
+    ensures { out.new ≡ plain_reply reply.now ++ drop 44 out.old }
+{
+    put_array(out, 0, reply.sequence.to_be_bytes());
+    put_array(out, 4, reply.timestamp);
+    put_array(out, 12, reply.error);
+    put_array(out, 14, reply.ssid.to_be_bytes());
+    put_array(out, 16, reply.received);
+    put_array(out, 24, sequence);
+    put_array(out, 28, timestamp);
+    put_array(out, 36, error);
+    put_array(out, 38, [0, 0, reply.ttl, 0, 0, 0]);
+}
+
+/// Writes a reply into the first 44 octets. All other octets stay.
 pub fn write_plain(reply: &ReplyBase, out: &mut [u8])
     requires { 44 ≤ length out.old }
     ensures { out.new ≡ plain_reply reply.now ++ drop 44 out.old }
 {
-    put(out, 0, &reply.sequence.to_be_bytes());
-    put(out, 4, &reply.timestamp);
-    put(out, 12, &reply.error);
-    put(out, 14, &reply.ssid.to_be_bytes());
-    put(out, 16, &reply.received);
-    put(out, 24, &reply.sender.sequence.to_be_bytes());
-    put(out, 28, &reply.sender.timestamp);
-    put(out, 36, &reply.sender.error);
-    put(out, 38, &[0, 0, reply.ttl, 0, 0, 0]);
+    let sender = &reply.sender;
+    let sequence = sender.sequence.to_be_bytes();
+    write_fields(reply, sequence, sender.timestamp, sender.error, out);
+}
+
+/// Writes the reply to a request as `write_plain` does. The sender's fields are copied from the octets in which they stand.
+#[inline(always)]
+pub fn write_plain_to(reply: &ReplyBase, request: &[u8], out: &mut [u8])
+    requires long { 44 ≤ length request.now }
+    requires sender { reply.now.sender ≡ sender_of request.now }
+    requires room { 44 ≤ length out.old }
+    ensures { out.new ≡ plain_reply reply.now ++ drop 44 out.old }
+{
+    let sequence = field4(request, 0);
+    write_fields(
+        reply,
+        sequence,
+        field8(request, 4),
+        field2(request, 12),
+        out,
+    );
 }
 
 #[cfg(test)]

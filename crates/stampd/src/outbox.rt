@@ -12,7 +12,9 @@ ghost use Rattle.replay_table.specs.Stands.{Stands};
 
 use port_io::{Failed, Sink, write_all};
 use refl_types::{Memory, Meta};
-use replay_format::{Outcome, Parsed, Record, read_ipv4_datagram, read_record, write_outcome};
+use replay_format::{
+    Outcome, Parsed, Record, read_ipv4_datagram, read_ipv6_datagram, read_record, write_outcome,
+};
 use replay_table::{ANSWER_ROOM, Sessions};
 use std::alloc::Global;
 
@@ -109,6 +111,22 @@ impl Outbox {
     {
         // Most records are whole datagrams of IPv4 peers.
         let Some((meta, t3, text, len)) = read_ipv4_datagram(octets) else {
+            return self.take_other(sessions, octets, limit);
+        };
+        if len as u64 > limit {
+            return Taken::TooLong;
+        }
+        self.used += reply_behind(sessions, &meta, t3, text, &mut self.octets, self.used);
+        Taken::Answered(len)
+    }
+
+    /// Answers any record at the front of octets, the datagrams of IPv6 peers first.
+    #[inline(never)]
+    fn take_other(&mut self, sessions: &mut Sessions, octets: &[u8], limit: u64) -> Taken
+        requires { self.old.used + ANSWER_ROOM ≤ ROOM }
+        ensures { IsTaken result octets.now limit self.old self.new sessions.old sessions.new }
+    {
+        let Some((meta, t3, text, len)) = read_ipv6_datagram(octets) else {
             return self.take_any(sessions, octets, limit);
         };
         if len as u64 > limit {
@@ -158,7 +176,7 @@ fn answer_behind(sessions: &mut Sessions, item: &Record, octets: &mut [u8], at: 
 }
 
 /// Writes the answer to a datagram from a place on.
-#[inline]
+#[inline(always)]
 fn reply_behind(
     sessions: &mut Sessions,
     meta: &Meta,

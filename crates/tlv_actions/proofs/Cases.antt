@@ -1,45 +1,72 @@
 -- The cases of a reply's TLV.
-use Rattle.std.proofs.Common.{◌≡◌, ℕ, true, false, if◌then◌else◌, List, length, take, subst, ◌==◌, eqb, inl, inr, refl, ap}
+use Rattle.std.proofs.Common.{◌≡◌, ℕ, true, false, Bool, if◌then◌else◌, ◌&&◌, ◌||◌, not, List, length, take, subst, ◌∙◌, sym, ◌==◌, eqb, inl, inr, refl, ap}
 use Rattle.std.proofs.lemmas.Bool.{eqb-true}
 use Rattle.std.proofs.lemmas.Bool.Decides.{eqb_tells}
 use Rattle.refl_types.specs.declared.config.ConfigParts.{ConfigParts}
 use Rattle.tlv_chain.specs.Tlv.{Tlv, unrecognized, malformed}
+use Rattle.tlv_actions.specs.declared.facts.Plan.{Plan}
+use Rattle.tlv_actions.specs.declared.facts.ReplyFacts.{ReplyFacts}
 use Rattle.tlv_actions.specs.declared.reply.Acted.TheVariants.{Done, Malformed}
-use Rattle.tlv_actions.specs.Rows.{is_understood, has_valid_length, measured, reply_value, reply_tlv, is_malformed, acted_on}
+use Rattle.tlv_actions.specs.Rows.{is_understood, has_valid_length, is_at, is_malformed, is_malformed_at, measured, flags_at, reply_value, reply_tlv, acted_on}
 
-pub reply_unknown : (c : ConfigParts) (n : ℕ) (t : Tlv) → is_understood c t.kind ≡ false → (let u : Tlv = record t { flags = unrecognized } in u) ≡ reply_tlv c n t
+pub reply_unknown : (c : ConfigParts) (f : ReplyFacts) (at : ℕ) (t : Tlv) → is_understood c t.kind ≡ false → (let u : Tlv = record t { flags = unrecognized } in u) ≡ reply_tlv c f at t
 unfolding reply_tlv
-reply_unknown c n t e = rw e refl
+reply_unknown c f at t e = rw e refl
 
-pub reply_bad : (c : ConfigParts) (n : ℕ) (t : Tlv) → is_understood c t.kind ≡ true → has_valid_length t.kind (length t.value) ≡ false → (let u : Tlv = record t { flags = malformed } in u) ≡ reply_tlv c n t
+pub reply_bad : (c : ConfigParts) (f : ReplyFacts) (at : ℕ) (t : Tlv) → is_understood c t.kind ≡ true → is_malformed_at c f.plan at t ≡ true → (let u : Tlv = record t { flags = malformed } in u) ≡ reply_tlv c f at t
 unfolding reply_tlv
-reply_bad c n t e f = rw (e, f) refl
+reply_bad c f at t e m = rw (e, m) refl
 
-pub reply_good : (c : ConfigParts) (n : ℕ) (t : Tlv) (value : List ℕ) → is_understood c t.kind ≡ true → has_valid_length t.kind (length t.value) ≡ true → value ≡ reply_value c n t → (let u : Tlv = record { flags = 0; kind = t.kind; value = value } in u) ≡ reply_tlv c n t
+pub reply_good : (c : ConfigParts) (f : ReplyFacts) (at : ℕ) (t : Tlv) (flags : ℕ) (value : List ℕ) → is_understood c t.kind ≡ true → is_malformed_at c f.plan at t ≡ false → flags ≡ flags_at f.plan at t.kind → value ≡ reply_value c f.n t → (let u : Tlv = record { flags = flags; kind = t.kind; value = value } in u) ≡ reply_tlv c f at t
 unfolding reply_tlv
-reply_good c n t value e f v = rw (e, f) (ap (λ (x : List ℕ). let u : Tlv = record { flags = 0; kind = t.kind; value = x } in u) v)
+reply_good c f at t flags value e m g v =
+    rw (e, m) (ap (λ (x : ℕ). let u : Tlv = record { flags = x; kind = t.kind; value = value } in u) g ∙ ap (λ (x : List ℕ). let u : Tlv = record { flags = flags_at f.plan at t.kind; kind = t.kind; value = x } in u) v)
 
-pub acted_unknown : (c : ConfigParts) (t : Tlv) → is_understood c t.kind ≡ false → Done ≡ acted_on c t
+pub acted_unknown : (c : ConfigParts) (p : Plan) (at : ℕ) (t : Tlv) → is_understood c t.kind ≡ false → Done ≡ acted_on c p at t
 unfolding is_malformed
-acted_unknown c t e = rw e refl
+acted_unknown c p at t e = rw e refl
 
-pub acted_bad : (c : ConfigParts) (t : Tlv) → is_understood c t.kind ≡ true → has_valid_length t.kind (length t.value) ≡ false → Malformed ≡ acted_on c t
-unfolding is_malformed
-acted_bad c t e f = rw (e, f) refl
+pub acted_bad : (c : ConfigParts) (p : Plan) (at : ℕ) (t : Tlv) → is_malformed_at c p at t ≡ true → Malformed ≡ acted_on c p at t
+acted_bad c p at t m = rw m refl
 
-pub acted_good : (c : ConfigParts) (t : Tlv) → is_understood c t.kind ≡ true → has_valid_length t.kind (length t.value) ≡ true → Done ≡ acted_on c t
-unfolding is_malformed
-acted_good c t e f = rw (e, f) refl
+pub acted_good : (c : ConfigParts) (p : Plan) (at : ℕ) (t : Tlv) → is_malformed_at c p at t ≡ false → Done ≡ acted_on c p at t
+acted_good c p at t m = rw m refl
 
--- ---- the values
+-- what was tested of the TLV's type and length
+pub malformed_same : (c : ConfigParts) (p : Plan) (at : ℕ) (t : Tlv) (first b known : Bool) (len : ℕ) → first ≡ is_at p.nine at → length t.value ≡ len → b ≡ is_malformed c first t.kind len → b ≡ known → is_malformed_at c p at t ≡ known
+malformed_same c p at t first b known len f l e k = ap (λ (n : ℕ). is_malformed c (is_at p.nine at) t.kind n) l ∙ ap (λ (x : Bool). is_malformed c x t.kind len) (sym f) ∙ sym e ∙ k
 
-pub valid_3 : (kind len : ℕ) → kind ≡ 3 → has_valid_length kind len ≡ true → len ≡ 4
-unfolding has_valid_length
-valid_3 kind len k e = let f : has_valid_length 3 len ≡ true = subst (λ (x : ℕ). has_valid_length x len ≡ true) k e in eqb-true len 4 f
+-- ---- what isn't malformed has a valid length
 
-pub valid_5 : (kind len : ℕ) → kind ≡ 5 → has_valid_length kind len ≡ true → len ≡ 12
-unfolding has_valid_length
-valid_5 kind len k e = let f : has_valid_length 5 len ≡ true = subst (λ (x : ℕ). has_valid_length x len ≡ true) k e in eqb-true len 12 f
+valid_if : (u v f : Bool) → u ≡ true → f ≡ true → (u && not v && f) ≡ false → v ≡ true
+valid_if true true true e g m = refl
+valid_if true false true e g m = absurd cc
+valid_if u v false e g m = absurd cc
+valid_if false v f e g m = absurd cc
+
+other_kind : (first : Bool) (kind k : ℕ) → kind ≡ k → eqb k 9 ≡ false → (first || not (eqb kind 9)) ≡ true
+other_kind true kind k e n = refl
+other_kind false kind k e n = ap (λ (x : ℕ). not (eqb x 9)) e ∙ ap not n
+
+pub valid_3 : (c : ConfigParts) (first : Bool) (kind len : ℕ) → kind ≡ 3 → is_understood c kind ≡ true → is_malformed c first kind len ≡ false → len ≡ 4
+unfolding is_malformed has_valid_length
+valid_3 c first kind len k u m =
+    let v = valid_if (is_understood c kind) (has_valid_length kind len) (first || not (eqb kind 9)) u (other_kind first kind 3 k refl) m in
+    let f : has_valid_length 3 len ≡ true = subst (λ (x : ℕ). has_valid_length x len ≡ true) k v in eqb-true len 4 f
+
+pub valid_5 : (c : ConfigParts) (first : Bool) (kind len : ℕ) → kind ≡ 5 → is_understood c kind ≡ true → is_malformed c first kind len ≡ false → len ≡ 12
+unfolding is_malformed has_valid_length
+valid_5 c first kind len k u m =
+    let v = valid_if (is_understood c kind) (has_valid_length kind len) (first || not (eqb kind 9)) u (other_kind first kind 5 k refl) m in
+    let f : has_valid_length 5 len ≡ true = subst (λ (x : ℕ). has_valid_length x len ≡ true) k v in eqb-true len 12 f
+
+-- ---- the flags and the values
+
+pub flags_3 : (p : Plan) (at kind : ℕ) → kind ≡ 3 → 0 ≡ flags_at p at kind
+flags_3 p at kind k = rw k refl
+
+pub flags_5 : (p : Plan) (at kind : ℕ) → kind ≡ 5 → 0 ≡ flags_at p at kind
+flags_5 p at kind k = rw k refl
 
 pub value_3 : (c : ConfigParts) (n : ℕ) (t : Tlv) → t.kind ≡ 3 → c.info ≡ reply_value c n t
 value_3 c n t k = rw k refl

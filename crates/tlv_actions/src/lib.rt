@@ -1,8 +1,12 @@
 //! What a reply has for each TLV of its request (RFC 8972, section 4).
 #![tactic(auto)]
 
+mod facts;
+mod planning;
 mod reply;
 mod rows;
 
-pub use reply::{Acted, ReplyFacts, act, copy_tlv};
+pub use facts::{Plan, ReplyFacts};
+pub use planning::{no_reply, plan};
+pub use reply::{Acted, act, copy_tlv};
 pub use rows::is_understood;

@@ -2,10 +2,12 @@
 
 ghost use Rattle.std.specs.Prelude.{◌≡◌, ◌+◌, ◌≤◌, length};
 ghost use Rattle.tlv_chain.specs.Walking.{tlv_at};
-ghost use Rattle.tlv_actions.specs.Rows.{WritesTlv, tlv_of, reply_tlv, acted_on};
+ghost use Rattle.tlv_actions.specs.Rows.{WritesTlv, HoldsTlv, tlv_of, reply_tlv, acted_on};
 
+use crate::facts::ReplyFacts;
 use crate::rows::{
-    DIRECT_MEASUREMENT, TIMESTAMP_INFORMATION, has_valid_length, is_understood, measured,
+    DIRECT_MEASUREMENT, TIMESTAMP_INFORMATION, UNRECOGNIZED, flags_at, is_at, is_malformed,
+    is_understood, measured,
 };
 use octet_format::{field4, put};
 use refl_types::{Config, ConfigParts};
@@ -14,18 +16,8 @@ use tlv_chain::Span;
 /// Octets of the header of a TLV.
 const HEADER_LEN: usize = 4;
 
-/// The U flag (RFC 8972, section 4).
-const UNRECOGNIZED: u8 = 0x80;
-
-/// The M flag.
+/// The M flag (RFC 8972, section 4).
 const MALFORMED: u8 = 0x40;
-
-/// What is told of a reply besides its configuration.
-#[derive(Clone, Copy, Debug, PartialEq, Eq)]
-pub struct ReplyFacts {
-    /// The number that was drawn, modulo 2^32: how many replies were sent before.
-    pub n: u32,
-}
 
 /// Whether the TLVs after this one are processed.
 #[derive(Clone, Copy, Debug, PartialEq, Eq)]
@@ -47,26 +39,44 @@ fn write(span: &Span, flags: u8, value: &[u8], out: &mut [u8])
     put(out, span.at + HEADER_LEN, value);
 }
 
-/// Writes what the reply has for the TLV of a value at a span.
-#[inline]
-fn answer(parts: &ConfigParts, n: u32, span: &Span, value: &[u8], out: &mut [u8]) -> Acted
+/// Writes other flags of the TLV of a value that stands at a span.
+#[inline(always)]
+fn write_flags(span: &Span, flags: u8, value: &[u8], out: &mut [u8])
     requires len { length value.now ≡ span.now.len }
     requires room { span.now.at + 4 + span.now.len ≤ length out.old }
-    ensures octets { WritesTlv out.old span.now (reply_tlv parts.now n (tlv_of span.now value.now)) out.new }
-    ensures acted { result ≡ acted_on parts.now (tlv_of span.now value.now) }
+    requires holds { HoldsTlv out.old span.now (tlv_of span.now value.now) }
+    ensures { WritesTlv out.old span.now (record { flags = flags; kind = span.now.kind; value = value.now }) out.new }
+{
+    put(out, span.at, &[flags]);
+}
+
+/// Writes what the reply has for the TLV of a value that stands at a span.
+#[inline]
+fn answer(
+    parts: &ConfigParts,
+    facts: &ReplyFacts,
+    span: &Span,
+    value: &[u8],
+    out: &mut [u8],
+) -> Acted
+    requires len { length value.now ≡ span.now.len }
+    requires room { span.now.at + 4 + span.now.len ≤ length out.old }
+    requires holds { HoldsTlv out.old span.now (tlv_of span.now value.now) }
+    ensures octets { WritesTlv out.old span.now (reply_tlv parts.now facts.now span.now.at (tlv_of span.now value.now)) out.new }
+    ensures acted { result ≡ acted_on parts.now facts.now.plan span.now.at (tlv_of span.now value.now) }
 {
     if !is_understood(parts, span.kind) {
-        write(span, UNRECOGNIZED, value, out);
+        write_flags(span, UNRECOGNIZED, value, out);
         return Acted::Done;
     }
-    if !has_valid_length(span.kind, span.len) {
-        write(span, MALFORMED, value, out);
+    if is_malformed(parts, is_at(&facts.plan.nine, span.at), span.kind, span.len) {
+        write_flags(span, MALFORMED, value, out);
         return Acted::Malformed;
     }
     match span.kind {
         TIMESTAMP_INFORMATION => write(span, 0, &parts.info, out),
-        DIRECT_MEASUREMENT => write(span, 0, &measured(n, &field4(value, 0)), out),
-        _ => write(span, 0, value, out),
+        DIRECT_MEASUREMENT => write(span, 0, &measured(facts.n, &field4(value, 0)), out),
+        kind => write_flags(span, flags_at(&facts.plan, span.at, kind), value, out),
     }
     Acted::Done
 }
@@ -83,16 +93,17 @@ pub fn copy_tlv(tail: &[u8], span: &Span, flags: u8, out: &mut [u8])
     write(span, flags, value, out);
 }
 
-/// Writes what the reply has for the TLV of a tail at a span, and no other octet. Of an HMAC TLV it writes flags 0 and
-/// all else as received.
+/// Writes what the reply has for the TLV of a tail that stands at a span, and no other octet. Of an HMAC TLV it writes
+/// flags 0 and all else as received. `facts.plan` is what `plan` gives for this configuration and this tail.
 #[inline]
 pub fn act(config: &Config, facts: &ReplyFacts, tail: &[u8], span: &Span, out: &mut [u8]) -> Acted
     requires whole { span.now.at + 4 + span.now.len ≤ length tail.now }
     requires room { length out.old ≡ length tail.now }
-    ensures octets { WritesTlv out.old span.now (reply_tlv config.now facts.now.n (tlv_at tail.now span.now)) out.new }
-    ensures acted { result ≡ acted_on config.now (tlv_at tail.now span.now) }
+    requires holds { HoldsTlv out.old span.now (tlv_at tail.now span.now) }
+    ensures octets { WritesTlv out.old span.now (reply_tlv config.now facts.now span.now.at (tlv_at tail.now span.now)) out.new }
+    ensures acted { result ≡ acted_on config.now facts.now.plan span.now.at (tlv_at tail.now span.now) }
 {
     let (_, from_value) = tail.split_at(span.at + HEADER_LEN);
     let (value, _) = from_value.split_at(usize::from(span.len));
-    answer(config.as_parts(), facts.n, span, value, out)
+    answer(config.as_parts(), facts, span, value, out)
 }

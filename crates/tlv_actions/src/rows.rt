@@ -1,8 +1,9 @@
-//! Which TLVs are understood, and what is measured (RFC 8972, sections 4.1, 4.3, 4.5 and 4.8).
+//! Which TLVs are understood, and what is measured (RFC 8972, sections 4.1, 4.3, 4.5 and 4.8; RFC 9503, sections 3 and 4).
 
 ghost use Rattle.std.specs.Prelude.{◌≡◌};
-ghost use Rattle.tlv_actions.specs.Rows.{is_understood, has_valid_length, measured};
+ghost use Rattle.tlv_actions.specs.Rows.{is_understood, has_valid_length, is_malformed, is_at, flags_at, measured};
 
+use crate::facts::Plan;
 use octet_format::put;
 use refl_types::ConfigParts;
 
@@ -18,6 +19,15 @@ pub const DIRECT_MEASUREMENT: u8 = 5;
 /// HMAC (RFC 8972, section 4.8).
 pub const HMAC: u8 = 8;
 
+/// Destination Node Address (RFC 9503, section 3).
+pub const DESTINATION_NODE_ADDRESS: u8 = 9;
+
+/// Return Path (RFC 9503, section 4).
+pub const RETURN_PATH: u8 = 10;
+
+/// The U flag (RFC 8972, section 4).
+pub const UNRECOGNIZED: u8 = 0x80;
+
 /// Whether a type is understood under a configuration.
 #[inline]
 #[tactic(auto, unfolding(crate::specs::Rows::is_understood))]
@@ -29,6 +39,8 @@ pub fn is_understood(parts: &ConfigParts, kind: u8) -> bool
         TIMESTAMP_INFORMATION => parts.tlvs / 8 % 2 == 1,
         DIRECT_MEASUREMENT => parts.tlvs / 32 % 2 == 1,
         HMAC => parts.key.is_some(),
+        DESTINATION_NODE_ADDRESS => parts.tlvs / 512 % 2 == 1,
+        RETURN_PATH => parts.tlvs / 1024 % 2 == 1,
         _ => false,
     }
 }
@@ -43,8 +55,45 @@ pub fn has_valid_length(kind: u8, len: u16) -> bool
         TIMESTAMP_INFORMATION => len == 4,
         DIRECT_MEASUREMENT => len == 12,
         HMAC => len == 16,
+        DESTINATION_NODE_ADDRESS => len == 4 || len == 16,
         _ => true,
     }
+}
+
+/// Whether a TLV of a type and a length is malformed: its type is understood, and its length is invalid for it. A
+/// Destination Node Address that isn't the first one never is.
+#[inline]
+#[tactic(auto, unfolding(crate::specs::Rows::is_malformed))]
+pub fn is_malformed(parts: &ConfigParts, first: bool, kind: u8, len: u16) -> bool
+    ensures { result ≡ is_malformed parts.now first kind len }
+{
+    is_understood(parts, kind)
+        && !has_valid_length(kind, len)
+        && (first || kind != DESTINATION_NODE_ADDRESS)
+}
+
+/// Whether there is a place, and it is this one.
+#[inline]
+pub fn is_at(place: &Option<usize>, at: usize) -> bool
+    ensures { result ≡ is_at place.now at }
+{
+    match place {
+        None => false,
+        Some(place) => *place == at,
+    }
+}
+
+/// The flags of the TLV at a place whose type is understood and that isn't malformed.
+#[inline]
+pub fn flags_at(plan: &Plan, at: usize, kind: u8) -> u8
+    ensures { result ≡ flags_at plan.now at kind }
+{
+    let acted = match kind {
+        DESTINATION_NODE_ADDRESS => is_at(&plan.own_at, at),
+        RETURN_PATH => is_at(&plan.path_at, at),
+        _ => true,
+    };
+    if acted { 0 } else { UNRECOGNIZED }
 }
 
 /// The value of a Direct Measurement TLV: the sender's count as received, then how many were received and how many

@@ -1,14 +1,14 @@
 //! The integrity of a tail. The rule is this project's own, after RFC 8972, section 4.8.
 
-ghost use Rattle.std.specs.Prelude.{ℕ, ◌≡◌, Some, true, ◌+◌, ◌≤◌, length, drop};
+ghost use Rattle.std.specs.Prelude.{ℕ, ◌≡◌, true, ◌+◌, ◌≤◌, length, drop};
 ghost use Rattle.tlv_integrity.specs.Integrity.{integrity, integrity_of, fits, without, IsPlaced};
 ghost use Rattle.tlv_integrity.specs.declared.integrity.Integrity.TheVariants.{Passed};
 ghost use Rattle.tlv_integrity.specs.Heads.{heads, placed_at, rest_head};
 ghost use Rattle.tlv_chain.specs.Split.{split};
-ghost use Rattle.hmac_sha256.specs.Hmac.{IsHashOf};
 
 use crate::heads::{First, all_padding, first_hmac, is_lone_padding, rest_head};
-use hmac_sha256::{KeyedHash, mac128_by};
+use hmac_sha256::KeyedHash;
+use keyed_config::KeyedConfig;
 use octet_format::field16;
 use refl_types::{Config, Mode};
 use tlv_chain::Span;
@@ -34,17 +34,10 @@ pub enum Integrity {
 }
 
 /// Whether the HMAC TLV at a span covers the tail and fits.
-fn fits(
-    block: &[u8; 64],
-    hash: &Option<KeyedHash>,
-    sequence: &[u8; 4],
-    tail: &[u8],
-    span: &Span,
-) -> bool
-    requires hash { IsHashOf hash.now (Some block.now) }
-    requires whole { span.now.at + 4 + span.now.len ≤ length tail.now }
+fn fits(key: &KeyedHash, sequence: &[u8; 4], tail: &[u8], span: &Span) -> bool
+    requires { span.now.at + 4 + span.now.len ≤ length tail.now }
     ensures len { result ≡ true → span.now.len ≡ 16 }
-    ensures value { result ≡ fits block.now sequence.now tail.now (placed_at tail.now span.now) (split (drop (span.now.at + 4 + span.now.len) tail.now)).rest }
+    ensures value { result ≡ fits key.now sequence.now tail.now (placed_at tail.now span.now) (split (drop (span.now.at + 4 + span.now.len) tail.now)).rest }
 {
     if span.len != MAC_LEN {
         return false;
@@ -54,7 +47,7 @@ fn fits(
         return false;
     }
     let (before, _) = tail.split_at(span.at);
-    field16(tail, span.at + HEADER_LEN) == mac128_by(block, hash, sequence, before)
+    field16(tail, span.at + HEADER_LEN) == key.mac128(sequence, before)
 }
 
 /// The integrity of a tail with no whole TLV of type 8, whose rest begins at a place.
@@ -72,22 +65,15 @@ fn without(mode: Mode, tail: &[u8], at: usize) -> Integrity
     }
 }
 
-/// The integrity of a tail under a key in its block form.
+/// The integrity of a tail under an HMAC key.
 #[inline(never)]
-fn check_under(
-    mode: Mode,
-    block: &[u8; 64],
-    hash: &Option<KeyedHash>,
-    sequence: &[u8; 4],
-    tail: &[u8],
-) -> Integrity
-    requires { IsHashOf hash.now (Some block.now) }
-    ensures value { result ≡ integrity_of mode block.now sequence.now tail.now (split tail.now) }
+fn check_under(mode: Mode, key: &KeyedHash, sequence: &[u8; 4], tail: &[u8]) -> Integrity
+    ensures value { result ≡ integrity_of mode key.now sequence.now tail.now (split tail.now) }
     ensures place { (at : ℕ) → result ≡ Passed at → at + 20 ≤ length tail.now }
 {
     match first_hmac(tail) {
         First::Hmac(span) => {
-            if fits(block, hash, sequence, tail, &span) {
+            if fits(key, sequence, tail, &span) {
                 Integrity::Passed(span.at)
             } else {
                 Integrity::Failed
@@ -97,29 +83,27 @@ fn check_under(
     }
 }
 
-/// The integrity of a tail, under the configuration's key and the request's Sequence Number.
+/// The integrity of a tail, under the configuration's HMAC key and the request's Sequence Number.
 pub fn check(mode: Mode, config: &Config, sequence: &[u8; 4], tail: &[u8]) -> Integrity
     ensures value { result ≡ integrity mode config.now sequence.now tail.now }
     ensures place { IsPlaced result config.now (length tail.now) }
 {
-    check_by(mode, config, &None, sequence, tail)
+    check_keyed(mode, &KeyedConfig::of(config), sequence, tail)
 }
 
-/// The same, where the blocks of the key may be hashed already.
+/// The same, where the blocks of the key are hashed.
 #[inline(always)]
-pub fn check_by(
+pub fn check_keyed(
     mode: Mode,
-    config: &Config,
-    hash: &Option<KeyedHash>,
+    config: &KeyedConfig,
     sequence: &[u8; 4],
     tail: &[u8],
 ) -> Integrity
-    requires { IsHashOf hash.now config.now.key }
     ensures value { result ≡ integrity mode config.now sequence.now tail.now }
     ensures place { IsPlaced result config.now (length tail.now) }
 {
-    match &config.as_parts().key {
+    match config.hmac_key() {
         None => Integrity::Absent,
-        Some(block) => check_under(mode, block, hash, sequence, tail),
+        Some(key) => check_under(mode, key, sequence, tail),
     }
 }

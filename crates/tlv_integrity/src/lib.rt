@@ -5,5 +5,5 @@ mod heads;
 mod integrity;
 mod sealing;
 
-pub use integrity::{Integrity, check, check_by};
-pub use sealing::{seal, seal_by};
+pub use integrity::{Integrity, check, check_keyed};
+pub use sealing::{seal, seal_keyed};

@@ -1,30 +1,23 @@
 //! The HMAC TLV of a reply (RFC 8972, section 4.8).
 
-ghost use Rattle.std.specs.Prelude.{◌≡◌, ◌+◌, ◌≤◌, IsSome, Some, length};
-ghost use Rattle.hmac_sha256.specs.Hmac.{IsHashOf};
+ghost use Rattle.std.specs.Prelude.{◌≡◌, ◌+◌, ◌≤◌, IsSome, length};
 ghost use Rattle.refl_types.specs.Spelling.{block_octets};
 ghost use Rattle.tlv_integrity.specs.Sealing.{sealed};
 
-use hmac_sha256::{KeyedHash, mac128_by};
+use hmac_sha256::KeyedHash;
+use keyed_config::KeyedConfig;
 use octet_format::put;
 use refl_types::Config;
 
 /// Octets of an HMAC TLV before its value.
 const HEADER_LEN: usize = 4;
 
-fn seal_under(
-    block: &[u8; 64],
-    hash: &Option<KeyedHash>,
-    sequence: &[u8; 4],
-    out: &mut [u8],
-    at: usize,
-)
-    requires hash { IsHashOf hash.now (Some block.now) }
-    requires room { at + 20 ≤ length out.old }
-    ensures { out.new ≡ sealed block.now sequence.now at out.old }
+fn seal_under(key: &KeyedHash, sequence: &[u8; 4], out: &mut [u8], at: usize)
+    requires { at + 20 ≤ length out.old }
+    ensures { out.new ≡ sealed key.now sequence.now at out.old }
 {
     let (before, _) = out.split_at(at);
-    let mac = mac128_by(block, hash, sequence, before);
+    let mac = key.mac128(sequence, before);
     put(out, at, &[0]);
     put(out, at + HEADER_LEN, &mac);
 }
@@ -36,24 +29,17 @@ pub fn seal(config: &Config, sequence: &[u8; 4], out: &mut [u8], at: usize)
     requires room { at + 20 ≤ length out.old }
     ensures { out.new ≡ sealed (block_octets config.now.key) sequence.now at out.old }
 {
-    seal_by(config, &None, sequence, out, at);
+    seal_keyed(&KeyedConfig::of(config), sequence, out, at);
 }
 
-/// The same, where the blocks of the key may be hashed already.
+/// The same, where the blocks of the key are hashed.
 #[inline(never)]
-pub fn seal_by(
-    config: &Config,
-    hash: &Option<KeyedHash>,
-    sequence: &[u8; 4],
-    out: &mut [u8],
-    at: usize,
-)
-    requires hash { IsHashOf hash.now config.now.key }
+pub fn seal_keyed(config: &KeyedConfig, sequence: &[u8; 4], out: &mut [u8], at: usize)
     requires key { IsSome config.now.key }
     requires room { at + 20 ≤ length out.old }
     ensures { out.new ≡ sealed (block_octets config.now.key) sequence.now at out.old }
 {
-    if let Some(block) = &config.as_parts().key {
-        seal_under(block, hash, sequence, out, at);
+    if let Some(key) = config.hmac_key() {
+        seal_under(key, sequence, out, at);
     }
 }

@@ -11,6 +11,7 @@ const TEST_LEN: usize = 14;
 
 /// Reads a request. It has no SSID, which is given as 0.
 #[tactic(auto, unfolding(crate::specs::Request::test_sender_of))]
+#[inline(always)]
 pub fn read_test(octets: &[u8]) -> Result<SenderBase, Short>
     ensures value { result ≡ read_of octets.now }
     ensures table { IfOk result (IsTestRequest octets.now) }

@@ -3,7 +3,7 @@
 ghost use Rattle.std.specs.Prelude.{◌≡◌, ◌≤◌, ◌-◌, ◌++◌, length, take, drop, replicate};
 ghost use Rattle.twamp_test.specs.Reply.{padding_at, reflected_len, reply_len, test_fields, test_reply};
 
-use octet_format::put;
+use octet_format::{put, put_array};
 use refl_types::Extra;
 use stamp_packet::ReplyBase;
 
@@ -16,19 +16,20 @@ const TEST_LEN: usize = 14;
 /// The greatest number of octets that are reflected: a reply has at most 65,507.
 const MAX_REFLECTED: usize = 65_466;
 
+#[inline(always)]
 fn write_fields(reply: &ReplyBase, out: &mut [u8])
     requires { 41 ≤ length out.old }
     ensures { out.new ≡ test_fields reply.now ++ drop 41 out.old }
 {
-    put(out, 0, &reply.sequence.to_be_bytes());
-    put(out, 4, &reply.timestamp);
-    put(out, 12, &reply.error);
-    put(out, 14, &[0, 0]);
-    put(out, 16, &reply.received);
-    put(out, 24, &reply.sender.sequence.to_be_bytes());
+    put_array(out, 0, reply.sequence.to_be_bytes());
+    put_array(out, 4, reply.timestamp);
+    put_array(out, 12, reply.error);
+    put_array(out, 14, [0, 0]);
+    put_array(out, 16, reply.received);
+    put_array(out, 24, reply.sender.sequence.to_be_bytes());
     put(out, 28, &reply.sender.timestamp);
     put(out, 36, &reply.sender.error);
-    put(out, 38, &[0, 0, reply.ttl]);
+    put_array(out, 38, [0, 0, reply.ttl]);
 }
 
 /// Where the padding of a request begins.
@@ -73,6 +74,7 @@ fn clear(out: &mut [u8], from: usize, to: usize)
 }
 
 /// Writes the reply to a request and answers its length, which is at least the request's. Later octets stay.
+#[inline(always)]
 pub fn write_test(extra: &Extra, reply: &ReplyBase, input: &[u8], out: &mut [u8]) -> usize
     requires read { 14 ≤ length input.now }
     requires limit { length input.now ≤ 65507 }

@@ -1,21 +1,41 @@
-use Rattle.std.proofs.Common.{◌≡◌, ◌++◌, ◌∙◌, ℕ, List, take, drop, ap, arith}
+use Rattle.std.proofs.Common.{◌≡◌, ◌++◌, ◌∙◌, List, ℕ, take, drop, ap, sym, subst, arith}
+use Rattle.std.proofs.lemmas.List.{take-append-drop}
+use Rattle.refl_types.specs.declared.config.ConfigParts.{ConfigParts}
 use Rattle.tlv_chain.specs.Walking.{tlv_at}
 use Rattle.tlv_chain.proofs.Walks.{past}
-use Rattle.tlv_actions.specs.Rows.{reply_tlv}
+use Rattle.tlv_actions.specs.Rows.{WritesTlv, reply_tlv, acted_on}
 use Rattle.reflect_core.specs.Tail.{processed_reply}
-use Rattle.reflect_core.proofs.Passes.{stopped, stops_first, malformed_is}
+use Rattle.reflect_core.proofs.Passes.{stopped, stops_first, processes_first, malformed_is, done_is, holds_over, behind_over, goes_over}
 use Rattle.reflect_core.proofs.tails.process.Goals as goal
+
+pub act-requires-clause-holds : goal.act-requires-clause-holds
+act-requires-clause-holds c =
+    holds_over (processed_reply c.args.config.now c.args.facts) c.args.tail.now c.loop-span.walk c.in-Some.span c.next.new.self c.loop-span.out (λ i. omega (arith, c.type_inv.tail i)) c.loop-span.invariant c.in-Some.ensures
 
 pub returns-in-Malformed : goal.returns-in-Malformed
 returns-in-Malformed c =
     let config = c.args.config.now in
-    let n = c.args.n in
+    let facts = c.args.facts in
     let tail = c.args.tail.now in
     let s = c.in-Some.span in
+    let before = c.loop-span.out in
     let out = c.act.new.out in
     let t = tlv_at tail s in
-    let at : c.rest-at.result ≡ past s = omega (arith, c.rest-at.ensures.place, c.in-Some.ensures.to, c.in-Some.ensures.from) in
-    let bad = malformed_is config t c.act.result c.act.ensures.acted c.in-Malformed.is in
-    let e : c.put_last.new.out ≡ take (past s) out ++ drop (past s) tail =
-    c.put_last.ensures ∙ ap (λ (x : List ℕ). take c.rest-at.result out ++ x) c.split_at.ensures.back ∙ ap (λ (m : ℕ). take m out ++ drop m tail) at in
-    stopped (processed_reply config n) tail c.loop-span.walk s c.next.new.self c.loop-span.out out c.put_last.new.out (reply_tlv config n t) (λ i. omega (arith, c.type_inv.tail i)) c.loop-span.invariant c.in-Some.ensures c.act.ensures.octets (omega arith) (λ rest. stops_first config n t rest bad) e
+    let bad = malformed_is config t c.act.result (c.act.ensures.acted ∙ ap (λ (p : ConfigParts). acted_on p t) c.config.ensures) c.in-Malformed.is in
+    let writes : WritesTlv before s (reply_tlv config facts t) out = subst (λ (p : ConfigParts). WritesTlv before s (reply_tlv p facts t) out) c.config.ensures c.act.ensures.octets in
+    let behind = behind_over (processed_reply config facts) tail c.loop-span.walk s c.next.new.self before out (reply_tlv config facts t) c.loop-span.invariant c.in-Some.ensures writes (omega arith) in
+    let e : out ≡ take (past s) out ++ drop (past s) tail = sym (take-append-drop (past s) out) ∙ ap (λ (x : List ℕ). take (past s) out ++ x) behind in
+    stopped (processed_reply config facts) tail c.loop-span.walk s c.next.new.self before out out (reply_tlv config facts t) (λ i. omega (arith, c.type_inv.tail i)) c.loop-span.invariant.way c.in-Some.ensures writes (omega arith) (λ rest. stops_first config facts t rest bad) e
+
+pub loop-span-preserved : goal.loop-span-preserved
+loop-span-preserved c =
+    let config = c.args.config.now in
+    let facts = c.args.facts in
+    let tail = c.args.tail.now in
+    let s = c.in-Some.span in
+    let before = c.loop-span.out in
+    let out = c.act.new.out in
+    let t = tlv_at tail s in
+    let good = done_is config t c.act.result (c.act.ensures.acted ∙ ap (λ (p : ConfigParts). acted_on p t) c.config.ensures) c.in_default-act.not-Malformed in
+    let writes : WritesTlv before s (reply_tlv config facts t) out = subst (λ (p : ConfigParts). WritesTlv before s (reply_tlv p facts t) out) c.config.ensures c.act.ensures.octets in
+    goes_over (processed_reply config facts) tail c.loop-span.walk s c.next.new.self before out (reply_tlv config facts t) c.loop-span.invariant c.in-Some.ensures writes (omega arith) (λ rest. processes_first config facts t rest good)

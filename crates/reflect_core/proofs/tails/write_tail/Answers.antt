@@ -6,13 +6,13 @@ use Rattle.reflect_core.proofs.Empty.{tail_by}
 use Rattle.reflect_core.proofs.tails.write_tail.Goals as goal
 
 pub returns-in-Failed : goal.returns-in-Failed
-returns-in-Failed c = c.flag_all.ensures ∙ tail_by c.args.mode c.args.config.now c.args.n c.args.asked.now c.args.answered.now c.args.tail.now Failed c.in-Failed.ensures.value
+returns-in-Failed c = c.flag_all.ensures ∙ tail_by c.args.mode c.args.config.now c.args.facts.now c.args.asked.now c.args.answered.now c.args.tail.now Failed c.in-Failed.ensures.value
 
 pub returns-in-Absent : goal.returns-in-Absent
-returns-in-Absent c = c.process.ensures ∙ tail_by c.args.mode c.args.config.now c.args.n c.args.asked.now c.args.answered.now c.args.tail.now Absent c.in-Absent.ensures.value
+returns-in-Absent c = c.process.ensures ∙ tail_by c.args.mode c.args.config.now c.args.facts.now c.args.asked.now c.args.answered.now c.args.tail.now Absent c.in-Absent.ensures.value
 
 pub returns-in-Passed : goal.returns-in-Passed
 returns-in-Passed c =
-    c.seal_by.ensures
+    c.seal_keyed.ensures
     ∙ ap (sealed (block_octets c.args.config.now.key) c.args.answered.now c.in-Passed.at) c.process-in-Passed.ensures
-    ∙ tail_by c.args.mode c.args.config.now c.args.n c.args.asked.now c.args.answered.now c.args.tail.now (Passed c.in-Passed.at) c.in-Passed.ensures.value
+    ∙ tail_by c.args.mode c.args.config.now c.args.facts.now c.args.asked.now c.args.answered.now c.args.tail.now (Passed c.in-Passed.at) c.in-Passed.ensures.value

@@ -16,9 +16,9 @@ returns-else-input-at c =
     let none : drop at input ≡ [] = drop_of_length-le input (omega arith) in
     let asked = field 0 4 input in
     let answered : List ℕ = to_be_bytes w32 c.args.sequence in
-    let empty : tail_after at c.args.mode c.args.config.now c.args.n c.args.sequence input ≡ [] =
-    ap (tail_reply c.args.mode c.args.config.now c.args.n asked answered) none ∙ tail_reply-nil c.args.mode c.args.config.now c.args.n asked answered in
+    let empty : tail_after at c.args.mode c.args.config.now c.args.facts.now c.args.sequence input ≡ [] =
+    ap (tail_reply c.args.mode c.args.config.now c.args.facts.now asked answered) none ∙ tail_reply-nil c.args.mode c.args.config.now c.args.facts.now asked answered in
     sym (take-append-drop at out)
     ∙ ap (λ (x : List ℕ). x ++ drop at out) (sym (append-nil (take at out)))
     ∙ ap (λ (x : List ℕ). take at out ++ x ++ drop at out) (sym empty)
-    ∙ ap (λ (n : ℕ). take at out ++ tail_after at c.args.mode c.args.config.now c.args.n c.args.sequence input ++ drop n out) same
+    ∙ ap (λ (n : ℕ). take at out ++ tail_after at c.args.mode c.args.config.now c.args.facts.now c.args.sequence input ++ drop n out) same

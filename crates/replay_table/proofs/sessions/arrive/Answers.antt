@@ -1,6 +1,6 @@
 use Rattle.std.proofs.Common.{◌≡◌, ◌+◌, ◌%◌, ◌^◌, get_or, refl, sym, ap, subst, ◌∙◌}
 use Rattle.std.proofs.lemmas.List.Quantifiers.{position-Some}
-use Rattle.refl_types.specs.declared.outcome.Silent.TheVariants.{Short, BadHmac}
+use Rattle.refl_types.specs.declared.outcome.Silent.TheVariants.{Short, BadHmac, NoReply}
 use Rattle.session_key.specs.declared.matching.Query.{Query}
 use Rattle.session_key.specs.Matching.{query_of, matches}
 use Rattle.reflect_core.specs.declared.judging.Judged.TheVariants.{Reflect, Silent}
@@ -11,8 +11,10 @@ use Rattle.replay_table.specs.declared.session.Session.{Session}
 use Rattle.replay_table.specs.Table.{update, raised}
 use Rattle.replay_table.specs.Reflection.{sending}
 use Rattle.replay_table.specs.Stands.{StandsFor}
-use Rattle.replay_table.proofs.TableFacts.{some_session, no_place, stands-none, stands-at, raised-count, keyed-at, keyed-set, hashed, judged-same, same-at}
+use Rattle.replay_table.proofs.TableFacts.{some_session, no_place, stands-none, stands-at, raised-count, judged-same, same-at}
 use Rattle.replay_table.proofs.AnswerFacts.{answered, no_session, silent, reflected}
+use Rattle.replay_table.proofs.ReplyFacts.{lent_judgement}
+use Rattle.replay_table.proofs.EndFacts.{ends_same}
 use Rattle.replay_table.proofs.sessions.arrive.Goals as goal
 
 pub returns-in_default-clause-answered : goal.returns-in_default-clause-answered
@@ -24,22 +26,29 @@ returns-in_default-clause-answered c = λ t st.
     let l = no_session t d none in
     answered t t c.args.list.now (Arrives d) (Unsent 1) c.args.out.now c.write_unsent.new.out c.write_unsent.result l.0 l.1 st c.write_unsent.ensures.octets c.write_unsent.ensures.len
 
-pub judge_by-requires : goal.judge_by-requires
-judge_by-requires c =
-    let m = c.args.meta.now in
-    let p = position-Some (λ (s : Session). matches (query_of m.local m.peer c.args.octets.now) s.key) c.args.list.now c.in-Some.place c.index-list-place.result (sym c.in-Some.ensures) in
-    let one = keyed-at c.args.list.now c.in-Some.place c.index-list-place.result c.requires.keyed p.0 in
-    record { hash = hashed _ _ one.hash; key = one.key }
-
 pub write_reflection-len-requires-clause-reflected : goal.write_reflection-len-requires-clause-reflected
 write_reflection-len-requires-clause-reflected c =
-    let m = c.args.meta.now in
-    let p = position-Some (λ (s : Session). matches (query_of m.local m.peer c.args.octets.now) s.key) c.args.list.now c.in-Some.place c.index-list-place.result (sym c.in-Some.ensures) in
+    let s = get_or c.args.list.now c.in-Some.place c.index-list-place.result in
+    let lent = c.reflector.result in
+    let same = c.reflector.ensures in
     record {
-      keyed = keyed-at c.args.list.now c.in-Some.place c.index-list-place.result c.requires.keyed p.0;
-      judged = sym c.judge_by.ensures ∙ c.in-Reflect.is;
+      judged = sym (c.judge.ensures ∙ lent_judgement lent.key.now s.key lent.config.now s.config c.args.octets.now same.key same.config) ∙ c.in-Reflect.is;
       limit = c.requires.limit;
     }
+
+pub write_reflection-len-requires-clause-local : goal.write_reflection-len-requires-clause-local
+write_reflection-len-requires-clause-local c =
+    let m = c.args.meta.now in
+    let q : Query = query_of m.local m.peer c.args.octets.now in
+    let p = position-Some (λ (s : Session). matches q s.key) c.args.list.now c.in-Some.place c.index-list-place.result (sym c.in-Some.ensures) in
+    (ends_same m.local m.peer c.args.octets.now _ p.1).0
+
+pub write_reflection-len-requires-clause-peer : goal.write_reflection-len-requires-clause-peer
+write_reflection-len-requires-clause-peer c =
+    let m = c.args.meta.now in
+    let q : Query = query_of m.local m.peer c.args.octets.now in
+    let p = position-Some (λ (s : Session). matches q s.key) c.args.list.now c.in-Some.place c.index-list-place.result (sym c.in-Some.ensures) in
+    (ends_same m.local m.peer c.args.octets.now _ p.1).1
 
 pub returns-in-Silent-Short-clause-answered : goal.returns-in-Silent-Short-clause-answered
 returns-in-Silent-Short-clause-answered c = λ t st.
@@ -49,7 +58,7 @@ returns-in-Silent-Short-clause-answered c = λ t st.
     let s = c.index-list-place.result in
     let p = position-Some (λ (r : Session). matches q r.key) c.args.list.now c.in-Some.place s (sym c.in-Some.ensures) in
     let at = stands-at q c.args.list.now t c.in-Some.place s st p.0 p.1 p.2 in
-    let was : judgement at.0.key.mode at.0.config d.octets ≡ Silent Short = judged-same _ at.0 d.octets at.1.stands ∙ sym c.judge_by.ensures ∙ c.in-Silent-Short.is ∙ ap (λ x. Silent x) c.in-Silent-Short.field-0-is in
+    let was : judgement at.0.key.mode at.0.config d.octets ≡ Silent Short = judged-same _ at.0 d.octets at.1.stands ∙ sym (c.judge.ensures ∙ lent_judgement c.reflector.result.key.now (get_or c.args.list.now c.in-Some.place s).key c.reflector.result.config.now (get_or c.args.list.now c.in-Some.place s).config d.octets c.reflector.ensures.key c.reflector.ensures.config) ∙ c.in-Silent-Short.is ∙ ap (λ x. Silent x) c.in-Silent-Short.field-0-is in
     let l = silent t d at.0 Short at.1.found was in
     let w = c.write_unsent-in-Silent-Short in
     answered t t c.args.list.now (Arrives d) (Unsent 2) c.args.out.now w.new.out w.result l.0 l.1 st w.ensures.octets w.ensures.len
@@ -62,18 +71,23 @@ returns-in-Silent-BadHmac-clause-answered c = λ t st.
     let s = c.index-list-place.result in
     let p = position-Some (λ (r : Session). matches q r.key) c.args.list.now c.in-Some.place s (sym c.in-Some.ensures) in
     let at = stands-at q c.args.list.now t c.in-Some.place s st p.0 p.1 p.2 in
-    let was : judgement at.0.key.mode at.0.config d.octets ≡ Silent BadHmac = judged-same _ at.0 d.octets at.1.stands ∙ sym c.judge_by.ensures ∙ c.in-Silent-BadHmac.is ∙ ap (λ x. Silent x) c.in-Silent-BadHmac.field-0-is in
+    let was : judgement at.0.key.mode at.0.config d.octets ≡ Silent BadHmac = judged-same _ at.0 d.octets at.1.stands ∙ sym (c.judge.ensures ∙ lent_judgement c.reflector.result.key.now (get_or c.args.list.now c.in-Some.place s).key c.reflector.result.config.now (get_or c.args.list.now c.in-Some.place s).config d.octets c.reflector.ensures.key c.reflector.ensures.config) ∙ c.in-Silent-BadHmac.is ∙ ap (λ x. Silent x) c.in-Silent-BadHmac.field-0-is in
     let l = silent t d at.0 BadHmac at.1.found was in
     let w = c.write_unsent-in-Silent-BadHmac in
     answered t t c.args.list.now (Arrives d) (Unsent 3) c.args.out.now w.new.out w.result l.0 l.1 st w.ensures.octets w.ensures.len
 
-pub returns-in-Reflect-clause-keyed : goal.returns-in-Reflect-clause-keyed
-returns-in-Reflect-clause-keyed c =
+pub returns-in-Silent-NoReply-clause-answered : goal.returns-in-Silent-NoReply-clause-answered
+returns-in-Silent-NoReply-clause-answered c = λ t st.
     let m = c.args.meta.now in
+    let q : Query = query_of m.local m.peer c.args.octets.now in
+    let d : Datagram = datagram_of m c.args.t3 c.args.octets.now in
     let s = c.index-list-place.result in
-    let p = position-Some (λ (r : Session). matches (query_of m.local m.peer c.args.octets.now) r.key) c.args.list.now c.in-Some.place s (sym c.in-Some.ensures) in
-    let one = keyed-at c.args.list.now c.in-Some.place _ c.requires.keyed p.0 in
-    keyed-set c.args.list.now c.in-Some.place _ c.requires.keyed (record { key = one.key; hash = one.hash })
+    let p = position-Some (λ (r : Session). matches q r.key) c.args.list.now c.in-Some.place s (sym c.in-Some.ensures) in
+    let at = stands-at q c.args.list.now t c.in-Some.place s st p.0 p.1 p.2 in
+    let was : judgement at.0.key.mode at.0.config d.octets ≡ Silent NoReply = judged-same _ at.0 d.octets at.1.stands ∙ sym (c.judge.ensures ∙ lent_judgement c.reflector.result.key.now (get_or c.args.list.now c.in-Some.place s).key c.reflector.result.config.now (get_or c.args.list.now c.in-Some.place s).config d.octets c.reflector.ensures.key c.reflector.ensures.config) ∙ c.in-Silent-NoReply.is ∙ ap (λ x. Silent x) c.in-Silent-NoReply.field-0-is in
+    let l = silent t d at.0 NoReply at.1.found was in
+    let w = c.write_unsent-in-Silent-NoReply in
+    answered t t c.args.list.now (Arrives d) (Unsent 7) c.args.out.now w.new.out w.result l.0 l.1 st w.ensures.octets w.ensures.len
 
 pub returns-in-Reflect-clause-answered : goal.returns-in-Reflect-clause-answered
 returns-in-Reflect-clause-answered c = λ t st.
@@ -83,13 +97,13 @@ returns-in-Reflect-clause-answered c = λ t st.
     let s = c.index-list-place.result in
     let p = position-Some (λ (r : Session). matches q r.key) c.args.list.now c.in-Some.place s (sym c.in-Some.ensures) in
     let at = stands-at q c.args.list.now t c.in-Some.place s st p.0 p.1 p.2 in
-    let was : judgement at.0.key.mode at.0.config d.octets ≡ Reflect = judged-same _ at.0 d.octets at.1.stands ∙ sym c.judge_by.ensures ∙ c.in-Reflect.is in
+    let was : judgement at.0.key.mode at.0.config d.octets ≡ Reflect = judged-same _ at.0 d.octets at.1.stands ∙ sym (c.judge.ensures ∙ lent_judgement c.reflector.result.key.now (get_or c.args.list.now c.in-Some.place s).key c.reflector.result.config.now (get_or c.args.list.now c.in-Some.place s).config d.octets c.reflector.ensures.key c.reflector.ensures.config) ∙ c.in-Reflect.is in
     let l = reflected t d at.0 at.1.found was in
     let other = c.index-list-place-in-Reflect.result in
     let old : Session = get_or c.args.list.now c.in-Some.place other in
     let here : StandsFor old at.0 = subst (λ (r : Session). StandsFor r at.0) (same-at c.args.list.now c.in-Some.place s other p.0) at.1.stands in
     let w = c.write_reflection-len in
     answered t (update at.0.key raised t) _ (Arrives d) (Sent (sending at.0 d)) c.args.out.now w.new.out w.result l.0 l.1
-    (at.1.after (record old { count = (old.count + 1) % 2 ^ 32 }) (raised-count old at.0 ((old.count + 1) % 2 ^ 32) here refl))
+    (at.1.after _ (raised-count old _ at.0 here refl refl refl refl))
     (w.ensures.octets at.0 at.1.stands)
     (w.ensures.len at.0 at.1.stands)

@@ -12,29 +12,29 @@ pub returns-then-span-ne-MAC_LEN-clause-value : goal.returns-then-span-ne-MAC_LE
 returns-then-span-ne-MAC_LEN-clause-value c =
     let s = c.args.span.now in
     let tail = c.args.tail.now in
-    let len : eqb (length (field (s.at + 4) s.len tail)) 16 ≡ false = ap (λ (n : ℕ). eqb n 16) (length-field (s.at + 4) s.len tail c.requires.whole) ∙ is_not s.len 16 c.if-span-ne-MAC_LEN.true in
-    fits_is c.args.block.now c.args.sequence.now tail (placed_at tail s) (split (drop (s.at + 4 + s.len) tail)).rest false _ _ len refl refl
+    let len : eqb (length (field (s.at + 4) s.len tail)) 16 ≡ false = ap (λ (n : ℕ). eqb n 16) (length-field (s.at + 4) s.len tail c.requires) ∙ is_not s.len 16 c.if-span-ne-MAC_LEN.true in
+    fits_is c.args.key.now c.args.sequence.now tail (placed_at tail s) (split (drop (s.at + 4 + s.len) tail)).rest false _ _ len refl refl
 
 pub returns-then-not-all_padding-clause-value : goal.returns-then-not-all_padding-clause-value
 returns-then-not-all_padding-clause-value c =
     let s = c.args.span.now in
     let tail = c.args.tail.now in
-    let len : eqb (length (field (s.at + 4) s.len tail)) 16 ≡ true = ap (λ (n : ℕ). eqb n 16) (length-field (s.at + 4) s.len tail c.requires.whole ∙ c.if-span-ne-MAC_LEN.false) in
+    let len : eqb (length (field (s.at + 4) s.len tail)) 16 ≡ true = ap (λ (n : ℕ). eqb n 16) (length-field (s.at + 4) s.len tail c.requires ∙ c.if-span-ne-MAC_LEN.false) in
     let after : all_padding (heads (split (drop (s.at + 4 + s.len) tail))) ≡ false =
     sym (c.all_padding.ensures ∙ ap (λ (o : List ℕ). all_padding (heads (split o))) (c.split_at.ensures.back ∙ ap (λ (n : ℕ). drop (s.at + 4 + n) tail) c.from.ensures)) ∙ c.if-not-all_padding.true in
-    fits_is c.args.block.now c.args.sequence.now tail (placed_at tail s) (split (drop (s.at + 4 + s.len) tail)).rest true false _ len after refl
+    fits_is c.args.key.now c.args.sequence.now tail (placed_at tail s) (split (drop (s.at + 4 + s.len) tail)).rest true false _ len after refl
 
 pub returns-clause-value : goal.returns-clause-value
 returns-clause-value c =
     let s = c.args.span.now in
     let tail = c.args.tail.now in
     let sequence = c.args.sequence.now in
-    let block = c.args.block.now in
-    let len : eqb (length (field (s.at + 4) s.len tail)) 16 ≡ true = ap (λ (n : ℕ). eqb n 16) (length-field (s.at + 4) s.len tail c.requires.whole ∙ c.if-span-ne-MAC_LEN.false) in
+    let block = c.args.key.now in
+    let len : eqb (length (field (s.at + 4) s.len tail)) 16 ≡ true = ap (λ (n : ℕ). eqb n 16) (length-field (s.at + 4) s.len tail c.requires ∙ c.if-span-ne-MAC_LEN.false) in
     let after : all_padding (heads (split (drop (s.at + 4 + s.len) tail))) ≡ true =
     sym (c.all_padding.ensures ∙ ap (λ (o : List ℕ). all_padding (heads (split o))) (c.split_at.ensures.back ∙ ap (λ (n : ℕ). drop (s.at + 4 + n) tail) c.from.ensures)) ∙ c.if-not-all_padding.false in
     let value : c.field16.result ≡ field (s.at + 4) s.len tail = c.field16.ensures ∙ ap (λ (n : ℕ). field (s.at + 4) n tail) (sym c.if-span-ne-MAC_LEN.false) in
-    let mac : c.mac128_by.result ≡ mac128_of block (sequence ++ take s.at tail) = c.mac128_by.ensures ∙ ap (λ (x : List ℕ). mac128_of block (sequence ++ x)) c.split_at-2.ensures.front in
+    let mac : c.mac128.result ≡ mac128_of block (sequence ++ take s.at tail) = c.mac128.ensures ∙ ap (λ (x : List ℕ). mac128_of block (sequence ++ x)) c.split_at-2.ensures.front in
     let same : pointwise nat_eq (field (s.at + 4) s.len tail) (mac128_of block (sequence ++ take s.at tail)) ≡ c.eq.result =
-    sym (c.eq.ensures ∙ ap (λ (x : List ℕ). pointwise nat_eq x c.mac128_by.result) value ∙ ap (pointwise nat_eq (field (s.at + 4) s.len tail)) mac) in
+    sym (c.eq.ensures ∙ ap (λ (x : List ℕ). pointwise nat_eq x c.mac128.result) value ∙ ap (pointwise nat_eq (field (s.at + 4) s.len tail)) mac) in
     fits_is block sequence tail (placed_at tail s) (split (drop (s.at + 4 + s.len) tail)).rest true true c.eq.result len after same

@@ -1,0 +1,9 @@
+use Rattle.std.proofs.Common.{◌-◌, length}
+use Rattle.tlv_actions.proofs.Firsts.{IsActing}
+use Rattle.tlv_actions.proofs.planning.first_acted.Given as goal
+
+abbrev pub invariant-loop-span : goal.invariant-loop-span
+invariant-loop-span l = IsActing l.parts l.kind l.tail l.first l.walk
+
+abbrev pub decreases-loop-span : goal.decreases-loop-span
+decreases-loop-span l = length l.tail - l.walk.at
