@@ -3,6 +3,7 @@
 
 mod memory;
 mod outside;
+mod plan;
 mod standard;
 
 pub use memory::{MemSink, MemSource};
