@@ -1,11 +1,16 @@
 """Replays a stream and prints each record beside its answer, with the fields named."""
 
+import itertools
 import subprocess
 import sys
 
 MODES = ("plain", "authenticated", "TWAMP")
 OPENINGS = ("opened", "duplicate", "clash of modes", "full", "rows full", "no key")
 SILENT = {1: "no session", 2: "short", 3: "bad HMAC"}
+ENDS = {
+    0: "all of the input is records", 2: "the words are no command", 4: "no memory",
+    6: "the input leaves the grammar", 7: "a read failed", 8: "a write failed",
+}
 WIDTH = 62
 
 # Fields of each packet: name and octets. A name of None stands for octets that must be zero.
@@ -140,20 +145,29 @@ def beside(left, right):
 
 def main():
     program, path = sys.argv[1:]
-    with open(path, "rb") as file:
-        stream = file.read()
-    ended = subprocess.run([program, "replay"], input=stream, capture_output=True)
+    try:
+        with open(path, "rb") as file:
+            stream = file.read()
+        ended = subprocess.run([program, "replay"], input=stream, capture_output=True)
+    except OSError as fault:
+        print(f"{fault.filename}: {fault.strerror}", file=sys.stderr)
+        return 1
     sessions = Sessions()
-    for (tag, body), (told, answer) in zip(records(stream), records(ended.stdout)):
+    given = itertools.chain(records(stream), itertools.repeat((None, b"")))
+    for (told, answer), (tag, body) in zip(records(ended.stdout), given):
         if told == 0xFF:
             print(f"  the stream leaves its grammar at octet {number(answer)}\n")
         elif tag == 1:
             beside(*sessions.open_lines(body, answer))
         else:
             beside(*sessions.datagram_lines(body, answer))
-    print(f"{len(ended.stdout)} octets of answers, status {ended.returncode}")
+    end = ENDS.get(ended.returncode, "the program was stopped")
+    print(f"{len(ended.stdout)} octets of answers, status {ended.returncode}: {end}")
     return ended.returncode
 
 
 if __name__ == "__main__":
-    sys.exit(main())
+    try:
+        sys.exit(main())
+    except BrokenPipeError:
+        sys.exit(141)

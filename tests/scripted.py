@@ -5,6 +5,7 @@ import pathlib
 import pty
 import select
 import subprocess
+import tempfile
 import threading
 import tty
 
@@ -500,15 +501,38 @@ def the_example_is_what_its_text_says(program):
     return differs("the stream", stream.read_bytes(), octets(text.read_text()))
 
 
+def demo(program, *words):
+    return subprocess.run(
+        [TOP / "demo", "--program", program, *words], capture_output=True, text=True, timeout=SECONDS,
+    )
+
+
 @case
 def the_demo_prints_each_answer(program):
-    ended = subprocess.run(
-        [TOP / "demo"], env=os.environ | {"STAMPD": program},
-        capture_output=True, text=True, timeout=SECONDS,
-    )
+    ended = demo(program)
     for wanted in (
         "opened", "number 0 drawn", "no reply: bad HMAC", "no reply: no session", "deadbeef", "status 0",
     ):
         if wanted not in ended.stdout:
             return f"nothing says '{wanted}'"
     return None if ended.returncode == 0 else f"status {ended.returncode} in place of 0"
+
+
+@case
+def the_demo_tells_where_a_stream_leaves_its_grammar(program):
+    stream = (TOP / "examples" / "first.replay").read_bytes()
+    with tempfile.NamedTemporaryFile() as file:
+        file.write(stream + b"\4")
+        file.flush()
+        ended = demo(program, file.name)
+    told = f"the stream leaves its grammar at octet {len(stream)}\n"
+    if told not in ended.stdout or "status 6: the input leaves the grammar" not in ended.stdout:
+        return f"it ends with {ended.stdout[-200:]!r}"
+    return None if ended.returncode == 6 else f"status {ended.returncode} in place of 6"
+
+
+@case
+def the_demo_tells_that_no_such_stream_is_there(program):
+    ended = demo(program, "/no/such/stream")
+    told = "/no/such/stream: No such file or directory\n"
+    return None if (ended.returncode, ended.stderr) == (1, told) else f"status {ended.returncode}, {ended.stderr!r}"

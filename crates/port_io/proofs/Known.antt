@@ -1,6 +1,7 @@
 -- Octets that are known, and the places of a buffer.
-use Rattle.std.proofs.Common.{◌≡◌, ℕ, ◌-◌, List, [], ◌∷◌, ◌++◌, length, take, drop, Option, Some, None, refl, sym, ap, ◌∙◌, append_assoc}
+use Rattle.std.proofs.Common.{◌≡◌, ℕ, ◌-◌, List, [], ◌∷◌, ◌++◌, length, take, drop, Option, Some, None, refl, sym, ap, subst, ◌∙◌, append_assoc, ◌+◌}
 use Rattle.std.proofs.lemmas.List.{append-nil, length-drop}
+use Rattle.std.proofs.Math.Seq.{take-add}
 use Rattle.std.specs.Io.KnownBytes.{Appends, Consumes, Keeps}
 
 pub appends_none : (o : Option (List ℕ)) → Appends o o []
@@ -41,3 +42,12 @@ take_rest n l = ap (λ (k : ℕ). take k (drop n l)) (sym (length-drop n l)) ∙
     take-all : (m : List ℕ) → take (length m) m ≡ m
     take-all [] = refl
     take-all (x ∷ m) = ap (λ (r : List ℕ). x ∷ r) (take-all m)
+
+-- a front of known octets grew by a front of the rest
+pub appends_front : (old now new : Option (List ℕ)) (octets : List ℕ) (at n : ℕ)
+    → Appends old now (take at octets) → Appends now new (take n (take (length octets - at) (drop at octets))) → Appends old new (take (at + n) octets)
+appends_front old now new octets at n before more =
+    let rest : take (length octets - at) (drop at octets) ≡ drop at octets = take_rest at octets in
+    let e : take at octets ++ take n (take (length octets - at) (drop at octets)) ≡ take (at + n) octets =
+    ap (λ (r : List ℕ). take at octets ++ take n r) rest ∙ sym (take-add at n octets) in
+    subst (λ (r : List ℕ). Appends old new r) e (appends_then old now new (take at octets) (take n (take (length octets - at) (drop at octets))) before more)

@@ -1,10 +1,9 @@
 //! A source and a sink in memory. The numbers of the calls that fail are given, counted from 1.
 
-ghost use Rattle.std.specs.Prelude.{◌≡◌, ◌<◌, ◌≤◌, [], length, drop, take, Some, IsTrue, ◌↔◌, IfOk, IsOk};
-ghost use Rattle.port_io.specs.Memory.{fails};
-ghost use Rattle.std.specs.Io.KnownBytes.{Appends};
+ghost use Rattle.std.specs.Prelude.{◌≡◌, [], length, min, take, IfOk, IsOk};
 
-use crate::outside::{Failed, Sink, Source};
+use crate::outside::{Failed, Sink, Source, count_failure};
+use crate::plan::FailurePlan;
 use refl_types::Memory;
 use std::alloc::Global;
 use std::marker::Model;
@@ -14,8 +13,7 @@ use std::marker::Model;
 pub struct MemSource {
     octets: Vec<u8>,
     at: usize,
-    failing: Vec<u64>,
-    calls: u64,
+    plan: FailurePlan,
     faults: u64,
 }
 
@@ -25,7 +23,7 @@ impl Model for MemSource {
 
     ghost Value = { SourceState };
 
-    ghost view = { λ s. record { left = drop s.at s.octets.items; failing = s.failing.items; calls = s.calls; faults = s.faults } };
+    ghost view = { λ s. record { left = drop s.at s.octets.items; plan = s.plan; faults = s.faults } };
 
     ghost invariant = { λ s. s.at ≤ vec_len s.octets };
 }
@@ -36,23 +34,22 @@ impl MemSource {
     /// A source of these octets. It takes no memory of its own.
     pub fn make(_alloc: Global, octets: Vec<u8>, failing: Vec<u64>) -> Result<MemSource, Memory>
         ensures always { IsOk result }
-        ensures value { IfOk result (λ s. s ≡ record { left = octets.items; failing = failing.items; calls = 0; faults = 0 }) }
+        ensures value { IfOk result (λ s. s ≡ record { left = octets.items; plan = record { failing = failing.items; calls = 0 }; faults = 0 }) }
     {
         Ok(MemSource {
             octets,
             at: 0,
-            failing,
-            calls: 0,
+            plan: FailurePlan::make(failing),
             faults: 0,
         })
     }
 }
 
 impl Source for MemSource {
-    ghost use Rattle.std.specs.Prelude.{◌≡◌, ◌≤◌, ◌↔◌, length, Some, IsTrue, IsErr, IfOk, OnErr};
+    ghost use Rattle.std.specs.Prelude.{◌≡◌, ◌≤◌, ◌↔◌, length, min, Some, IsTrue, IsErr, IfOk, OnOk, OnErr};
     ghost use Rattle.std.specs.Io.KnownBytes.{ReadConsumes};
     ghost use Rattle.port_io.specs.Outside.{Rises};
-    ghost use Rattle.port_io.specs.Memory.{SourceState, counted, fails};
+    ghost use Rattle.port_io.specs.Memory.{SourceState, next_fails, source_read, source_failed};
 
     ghost left = { λ s. Some s.left };
 
@@ -61,16 +58,17 @@ impl Source for MemSource {
     fn read(&mut self, buf: &mut [u8]) -> Result<usize, Failed>
         ensures bound { IfOk result (λ n. n ≤ length buf.new) }
         ensures octets { ReadConsumes (Some self.old.left) (Some self.new.left) result buf.new }
-        ensures count { self.old.faults ≤ self.new.faults }
+        ensures still { OnOk result (self.new.faults ≡ self.old.faults) }
         ensures cause { OnErr result (Rises self.old.faults self.new.faults) }
-        // Just the planned calls fail.
-        ensures planned { IsErr result ↔ IsTrue (fails self.old.failing (counted self.old.calls)) }
-        ensures calls { self.new.calls ≡ counted self.old.calls }
+        // Just the planned calls fail, and each is counted once.
+        ensures planned { IsErr result ↔ IsTrue (next_fails self.old.plan) }
+        ensures failed { OnErr result (self.new ≡ source_failed self.old) }
+        // Otherwise as much is read as there is, and as has room.
+        ensures full { IfOk result (λ n. n ≡ min (length buf.old) (length self.old.left)) }
+        ensures taken { IfOk result (λ n. self.new ≡ source_read self.old n) }
     {
-        self.calls = self.calls.saturating_add(1);
-        if is_planned(&self.failing, self.calls) {
-            self.faults = self.faults.saturating_add(1);
-            return Err(Failed);
+        if self.plan.next_fails() {
+            return Err(count_failure(&mut self.faults));
         }
         let count = copy_front(&self.octets[self.at..], buf);
         self.at += count;
@@ -78,19 +76,10 @@ impl Source for MemSource {
     }
 }
 
-/// Whether the call of that number is one that fails.
-fn is_planned(failing: &[u64], call: u64) -> bool
-    ensures { IsTrue result ↔ IsTrue (fails failing.now call) }
-{
-    failing.contains(&call)
-}
-
 /// Copies as many octets as there are and as there is room for.
 fn copy_front(octets: &[u8], buf: &mut [u8]) -> usize
-    ensures bound { result ≤ length buf.old }
-    ensures within { result ≤ length octets.now }
+    ensures count { result ≡ min (length buf.old) (length octets.now) }
     ensures front { take result buf.new ≡ take result octets.now }
-    ensures some { result ≡ 0 → 0 < length buf.old → octets.now ≡ [] }
 {
     let count = buf.len().min(octets.len());
     buf[..count].copy_from_slice(&octets[..count]);
@@ -102,8 +91,7 @@ fn copy_front(octets: &[u8], buf: &mut [u8]) -> usize
 pub struct MemSink {
     octets: Vec<u8>,
     room: usize,
-    failing: Vec<u64>,
-    calls: u64,
+    plan: FailurePlan,
     faults: u64,
 }
 
@@ -113,7 +101,7 @@ impl Model for MemSink {
 
     ghost Value = { SinkState };
 
-    ghost view = { λ s. record { written = s.octets.items; room = s.room; failing = s.failing.items; calls = s.calls; faults = s.faults } };
+    ghost view = { λ s. record { written = s.octets.items; room = s.room; plan = s.plan; faults = s.faults } };
 
     ghost invariant = { λ s. (vec_len s.octets ≤ s.room) × (s.room ≤ vec_capacity s.octets) };
 }
@@ -123,14 +111,13 @@ impl MemSink {
 
     /// A sink with room for as many octets, which is taken now.
     pub fn make(alloc: Global, room: usize, failing: Vec<u64>) -> Result<MemSink, Memory>
-        ensures { IfOk result (λ s. s ≡ record { written = []; room = room; failing = failing.items; calls = 0; faults = 0 }) }
+        ensures { IfOk result (λ s. s ≡ record { written = []; room = room; plan = record { failing = failing.items; calls = 0 }; faults = 0 }) }
     {
         match Vec::with_capacity(alloc, room) {
             Ok(octets) => Ok(MemSink {
                 octets,
                 room,
-                failing,
-                calls: 0,
+                plan: FailurePlan::make(failing),
                 faults: 0,
             }),
             Err(_) => Err(Memory),
@@ -146,10 +133,10 @@ impl MemSink {
 }
 
 impl Sink for MemSink {
-    ghost use Rattle.std.specs.Prelude.{◌≡◌, ◌<◌, ◌≤◌, ◌+◌, ◌↔◌, ◌⊎◌, length, Some, IsTrue, IsErr, IfOk, OnErr};
+    ghost use Rattle.std.specs.Prelude.{◌≡◌, ◌<◌, ◌≤◌, ◌+◌, ◌↔◌, ◌⊎◌, length, Some, IsTrue, IsErr, IfOk, OnOk, OnErr};
     ghost use Rattle.std.specs.Io.KnownBytes.{WriteAppends};
     ghost use Rattle.port_io.specs.Outside.{Rises};
-    ghost use Rattle.port_io.specs.Memory.{SinkState, counted, fails};
+    ghost use Rattle.port_io.specs.Memory.{SinkState, next_fails, sink_written, sink_failed};
 
     ghost written = { λ s. Some s.written };
 
@@ -159,21 +146,17 @@ impl Sink for MemSink {
         ensures bound { IfOk result (λ n. n ≤ length octets.now) }
         ensures some { IfOk result (λ n. 0 < length octets.now → 0 < n) }
         ensures octets { WriteAppends (Some self.old.written) (Some self.new.written) result octets.now }
-        ensures count { self.old.faults ≤ self.new.faults }
+        ensures still { OnOk result (self.new.faults ≡ self.old.faults) }
         ensures cause { OnErr result (Rises self.old.faults self.new.faults) }
+        // Just the planned calls fail, and those for whose octets there is no room. Each is counted once.
+        ensures planned { IsErr result ↔ (IsTrue (next_fails self.old.plan) ⊎ self.old.room < length self.old.written + length octets.now) }
+        ensures failed { OnErr result (self.new ≡ sink_failed self.old) }
+        // Otherwise all is written.
         ensures whole { IfOk result (λ n. n ≡ length octets.now) }
-        // Just the planned calls fail, and those for whose octets there is no room.
-        ensures planned { IsErr result ↔ (IsTrue (fails self.old.failing (counted self.old.calls)) ⊎ self.old.room < length self.old.written + length octets.now) }
-        ensures calls { self.new.calls ≡ counted self.old.calls }
+        ensures added { OnOk result (self.new ≡ sink_written self.old octets.now) }
     {
-        self.calls = self.calls.saturating_add(1);
-        if is_planned(&self.failing, self.calls) {
-            self.faults = self.faults.saturating_add(1);
-            return Err(Failed);
-        }
-        if octets.len() > self.room - self.octets.len() {
-            self.faults = self.faults.saturating_add(1);
-            return Err(Failed);
+        if self.plan.next_fails() || octets.len() > self.room - self.octets.len() {
+            return Err(count_failure(&mut self.faults));
         }
         if self.octets.extend_from_slice(octets).is_err() {
             unreachable!();

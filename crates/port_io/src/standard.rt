@@ -1,17 +1,28 @@
 //! The standard streams.
 
-ghost use Rattle.std.specs.Prelude.{◌≡◌, IfOk, IsOk};
+ghost use Rattle.std.specs.Prelude.{◌≡◌, ◌<◌, ◌≤◌, length, IfOk, OnOk, OnErr, IsOk};
+ghost use Rattle.std.specs.Io.KnownBytes.{ReadConsumes, WriteAppends};
+ghost use Rattle.port_io.specs.Outside.{Rises, counted};
 
-use crate::outside::{Failed, Sink, Source};
+use crate::outside::{Failed, Sink, Source, count_failure};
 use refl_types::Memory;
 use std::alloc::Global;
 use std::io::{self, Input, Read, Write};
+use std::marker::Model;
 
 /// A source over a reader. It tells what the reader tells.
 #[derive(Drop)]
 pub struct StdSource<T> {
-    pub reader: T,
-    pub faults: u64,
+    reader: T,
+    faults: u64,
+}
+
+impl<T> Model for StdSource<T> {
+    ghost use Rattle.port_io.specs.Standard.{Stream};
+
+    ghost Value = { Stream T };
+
+    ghost view = { λ s. record { inner = s.reader; faults = s.faults } };
 }
 
 impl<T: Read + Drop> StdSource<T> {
@@ -28,17 +39,21 @@ impl<T: Read + Drop> StdSource<T> {
 }
 
 impl<T: Read + Drop> Source for StdSource<T> {
-    ghost left = { λ s. T.remaining s.reader };
+    ghost left = { λ s. T.remaining s.inner };
 
     ghost faults = { λ s. s.faults };
 
-    fn read(&mut self, buf: &mut [u8]) -> Result<usize, Failed> {
+    fn read(&mut self, buf: &mut [u8]) -> Result<usize, Failed>
+        ensures bound { IfOk result (λ n. n ≤ length buf.new) }
+        ensures octets { ReadConsumes (T.remaining self.old.inner) (T.remaining self.new.inner) result buf.new }
+        ensures still { OnOk result (self.new.faults ≡ self.old.faults) }
+        ensures cause { OnErr result (Rises self.old.faults self.new.faults) }
+        // A failure is counted once.
+        ensures failed { OnErr result (self.new.faults ≡ counted self.old.faults) }
+    {
         match self.reader.read(buf) {
             Ok(count) => Ok(count),
-            Err(_) => {
-                self.faults = self.faults.saturating_add(1);
-                Err(Failed)
-            }
+            Err(_) => Err(count_failure(&mut self.faults)),
         }
     }
 }
@@ -62,8 +77,16 @@ impl<R: Print> Write for Output<R> {
 /// A sink over a writer. It tells what the writer tells.
 #[derive(Drop)]
 pub struct StdSink<W> {
-    pub writer: W,
-    pub faults: u64,
+    writer: W,
+    faults: u64,
+}
+
+impl<W> Model for StdSink<W> {
+    ghost use Rattle.port_io.specs.Standard.{Stream};
+
+    ghost Value = { Stream W };
+
+    ghost view = { λ s. record { inner = s.writer; faults = s.faults } };
 }
 
 impl<R: Print + Drop> StdSink<Output<R>> {
@@ -80,23 +103,23 @@ impl<R: Print + Drop> StdSink<Output<R>> {
 }
 
 impl<W: Write + Drop> Sink for StdSink<W> {
-    ghost written = { λ s. W.contents s.writer };
+    ghost written = { λ s. W.contents s.inner };
 
     ghost faults = { λ s. s.faults };
 
-    fn write(&mut self, octets: &[u8]) -> Result<usize, Failed> {
+    fn write(&mut self, octets: &[u8]) -> Result<usize, Failed>
+        ensures bound { IfOk result (λ n. n ≤ length octets.now) }
+        ensures some { IfOk result (λ n. 0 < length octets.now → 0 < n) }
+        ensures octets { WriteAppends (W.contents self.old.inner) (W.contents self.new.inner) result octets.now }
+        ensures still { OnOk result (self.new.faults ≡ self.old.faults) }
+        ensures cause { OnErr result (Rises self.old.faults self.new.faults) }
+        // A failure is counted once.
+        ensures failed { OnErr result (self.new.faults ≡ counted self.old.faults) }
+    {
         match self.writer.write(octets) {
-            Ok(count) => {
-                if count == 0 && !octets.is_empty() {
-                    self.faults = self.faults.saturating_add(1);
-                    return Err(Failed);
-                }
-                Ok(count)
-            }
-            Err(_) => {
-                self.faults = self.faults.saturating_add(1);
-                Err(Failed)
-            }
+            Ok(count) if count > 0 || octets.is_empty() => Ok(count),
+            // A writer that takes none of some octets fails as well.
+            _ => Err(count_failure(&mut self.faults)),
         }
     }
 }

@@ -1,7 +1,6 @@
 -- The places of a buffer.
-use Rattle.std.proofs.Common.{◌≡◌, ℕ, ◌+◌, ◌-◌, ◌<◌, ◌≤◌, List, [], ◌∷◌, ◌++◌, length, take, drop, get_or, refl, sym, ap, ◌∙◌, arith}
-use Rattle.std.proofs.lemmas.List.{drop-take, drop-drop, length-take, length-drop, take-append-le}
-use Rattle.std.proofs.Math.Seq.{take-append-add}
+use Rattle.std.proofs.Common.{◌≡◌, ℕ, ◌+◌, ◌-◌, ◌<◌, ◌≤◌, List, [], ◌∷◌, ◌++◌, length, take, drop, get_or, sym, ap, ◌∙◌, arith}
+use Rattle.std.proofs.lemmas.List.{drop-take, drop-drop, length-take}
 use Rattle.stampd.specs.Buffers.{between}
 
 -- ---- places
@@ -24,17 +23,6 @@ pub between_same : (old new : List ℕ) (from to : ℕ) → from ≡ 0 → take 
 between_same old new from to zero e =
     let b : to - from ≡ to = omega arith in
     rw (b, zero) e
-
-pub take_front : (front buf post : List ℕ) (to n : ℕ) → length front ≡ to → n ≤ length buf → take (to + n) (front ++ (buf ++ post)) ≡ front ++ take n buf
-take_front front buf post to n len fits =
-    ap (λ (k : ℕ). take (k + n) (front ++ (buf ++ post))) (sym len) ∙ take-append-add front (buf ++ post) n ∙ ap (λ (r : List ℕ). front ++ r) (take-append-le n buf post fits)
-
-pub take_rest : (n : ℕ) (l : List ℕ) → take (length l - n) (drop n l) ≡ drop n l
-take_rest n l = ap (λ (k : ℕ). take k (drop n l)) (sym (length-drop n l)) ∙ take-all (drop n l)
-  where
-    take-all : (m : List ℕ) → take (length m) m ≡ m
-    take-all [] = refl
-    take-all (x ∷ m) = ap (λ (r : List ℕ). x ∷ r) (take-all m)
 
 -- a list of one element
 pub one_element : {A : Type 0} (ws : List A) (w : A) → 1 ≤ length ws → length ws < 2 → w ≡ get_or ws 0 w → ws ≡ w ∷ []

@@ -11,6 +11,6 @@ IsReplay words = words ≡ codes "replay" ∷ []
 abbrev pub usage : List ℕ
 usage = codes "stampd: usage" ++ 10 ∷ []
 
--- the usage line was written, or a front of it where a write failed
+-- the usage line was written and no write failed, or a front of it where a write failed
 abbrev pub IsUsage : Option (List ℕ) → Option (List ℕ) → ℕ → ℕ → Type 0
-IsUsage written written' faults faults' = Appends written written' usage ⊎ (AppendsFront written written' usage × Rises faults faults')
+IsUsage written written' faults faults' = (Appends written written' usage × (faults' ≡ faults)) ⊎ (AppendsFront written written' usage × Rises faults faults')

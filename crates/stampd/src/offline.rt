@@ -38,7 +38,7 @@ fn leave<K: Sink>(outbox: &mut Outbox, out: &mut K, offset: u64) -> ReplayEnd
     ensures ends { (result ≡ ReplayEnd.Grammar) ⊎ (result ≡ ReplayEnd.Output) }
     ensures grammar { result ≡ ReplayEnd.Grammar → Appends (K.written out.old) (K.written out.new) (due outbox.old ++ answer_octets (Left offset)) }
     ensures output { result ≡ ReplayEnd.Output → AppendsFront (K.written out.old) (K.written out.new) (due outbox.old ++ answer_octets (Left offset)) }
-    ensures count { K.faults out.old ≤ K.faults out.new }
+    ensures still { result ≡ ReplayEnd.Grammar → K.faults out.new ≡ K.faults out.old }
     ensures cause { result ≡ ReplayEnd.Output → Rises (K.faults out.old) (K.faults out.new) }
 {
     let Ok(()) = outbox.make_room(out) else {
@@ -58,8 +58,10 @@ pub fn replay<S: Source, K: Sink>(alloc: Global, input: &mut S, out: &mut K) -> 
     ensures grammar { result ≡ ReplayEnd.Grammar → HasLeft (S.left input.old) (S.left input.new) (K.written out.old) (K.written out.new) }
     ensures input { result ≡ ReplayEnd.Input → WasCutOff (S.left input.old) (S.left input.new) (K.written out.old) (K.written out.new) }
     ensures read_fault { result ≡ ReplayEnd.Input → Rises (S.faults input.old) (S.faults input.new) }
+    ensures no_read_fault { result ≢ ReplayEnd.Input → S.faults input.new ≡ S.faults input.old }
     ensures output { result ≡ ReplayEnd.Output → WasStopped (S.left input.old) (S.left input.new) (K.written out.old) (K.written out.new) }
     ensures write_fault { result ≡ ReplayEnd.Output → Rises (K.faults out.old) (K.faults out.new) }
+    ensures no_write_fault { result ≢ ReplayEnd.Output → K.faults out.new ≡ K.faults out.old }
 {
     let Ok(mut ahead) = ReadAhead::make(alloc) else {
         return ReplayEnd::Memory;
@@ -156,10 +158,12 @@ pub fn offline<S: Source, K: Sink>(
     // A read failed: all whole records that were read are answered.
     ensures input { result ≡ 7 → WasCutOff (S.left input.old) (S.left input.new) (K.written out.old) (K.written out.new) }
     ensures read_fault { result ≡ 7 → Rises (S.faults input.old) (S.faults input.new) }
+    ensures no_read_fault { result ≢ 7 → S.faults input.new ≡ S.faults input.old }
 
     // A write failed: a front of what was due was written.
     ensures output { result ≡ 8 → WasStopped (S.left input.old) (S.left input.new) (K.written out.old) (K.written out.new) }
     ensures write_fault { result ≡ 8 → Rises (K.faults out.old) (K.faults out.new) }
+    ensures no_write_fault { result ≢ 8 → result ≢ 2 → K.faults out.new ≡ K.faults out.old }
 
     // Where nothing fails, a stream is answered, and what is none is told so.
     ensures complete { (octets : List ℕ) (records : List Item) → S.left input.old ≡ Some octets → IsStream octets records → IsReplay (map string_bytes words.now)

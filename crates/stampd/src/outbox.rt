@@ -70,7 +70,7 @@ impl Outbox {
         ensures none { OnOk result ((due self.new ≡ []) × (self.new.used ≡ 0)) }
         ensures front { OnErr result (AppendsFront (K.written out.old) (K.written out.new) (due self.old)) }
         ensures kept { OnErr result (due self.new ≡ due self.old) }
-        ensures count { K.faults out.old ≤ K.faults out.new }
+        ensures still { OnOk result (K.faults out.new ≡ K.faults out.old) }
         ensures cause { OnErr result (Rises (K.faults out.old) (K.faults out.new)) }
     {
         write_all(out, &self.octets[..self.used])?;
@@ -84,7 +84,7 @@ impl Outbox {
         ensures some { OnOk result ((octets : List ℕ) × Appends (K.written out.old) (K.written out.new) octets × (octets ++ due self.new ≡ due self.old)) }
         ensures front { OnErr result (AppendsFront (K.written out.old) (K.written out.new) (due self.old)) }
         ensures kept { OnErr result (due self.new ≡ due self.old) }
-        ensures count { K.faults out.old ≤ K.faults out.new }
+        ensures still { OnOk result (K.faults out.new ≡ K.faults out.old) }
         ensures cause { OnErr result (Rises (K.faults out.old) (K.faults out.new)) }
     {
         if self.has_room() {

@@ -1,7 +1,7 @@
 //! A buffer between a source and the records in it.
 
-ghost use Rattle.std.specs.Prelude.{ℕ, ◌≡◌, ◌+◌, ◌<◌, ◌≤◌, ◌++◌, List, [], length, drop, take, vec_len, IfOk, OnErr};
-ghost use Rattle.std.specs.Io.KnownBytes.{Consumes, Keeps, IsAtEnd};
+ghost use Rattle.std.specs.Prelude.{ℕ, ◌≡◌, ◌+◌, ◌<◌, ◌≤◌, ◌++◌, List, [], length, drop, take, vec_len, IfOk, OnOk, OnErr};
+ghost use Rattle.std.specs.Io.KnownBytes.{Consumes, ReadConsumes, Keeps, IsAtEnd};
 ghost use Rattle.port_io.specs.Outside.{Rises};
 
 use port_io::{Failed, Source};
@@ -71,7 +71,7 @@ impl ReadAhead {
         ensures ok { IfOk result (λ n. (octets : List ℕ) × (length octets ≡ n) × (pending self.new ≡ pending self.old ++ octets)
             × Consumes (S.left input.old) (S.left input.new) octets × (n ≡ 0 → IsAtEnd (S.left input.new)) × (n ≤ ROOM)) }
         ensures err { OnErr result ((pending self.new ≡ pending self.old) × Keeps (S.left input.old) (S.left input.new)) }
-        ensures count { S.faults input.old ≤ S.faults input.new }
+        ensures still { OnOk result (S.faults input.new ≡ S.faults input.old) }
         ensures cause { OnErr result (Rises (S.faults input.old) (S.faults input.new)) }
     {
         self.compact();
@@ -84,10 +84,10 @@ impl ReadAhead {
 /// Reads into the places from `to` on.
 fn read_behind<S: Source>(input: &mut S, octets: &mut [u8], to: usize) -> Result<usize, Failed>
     requires { to < length octets.old }
-    ensures ok { IfOk result (λ n. (to + n ≤ length octets.old) × ((bytes : List ℕ) × (length bytes ≡ n) × (take (to + n) octets.new ≡ take to octets.old ++ bytes)
-        × Consumes (S.left input.old) (S.left input.new) bytes × (n ≡ 0 → IsAtEnd (S.left input.new)))) }
-    ensures err { OnErr result ((take to octets.new ≡ take to octets.old) × Keeps (S.left input.old) (S.left input.new)) }
-    ensures count { S.faults input.old ≤ S.faults input.new }
+    ensures bound { IfOk result (λ n. to + n ≤ length octets.old) }
+    ensures octets { ReadConsumes (S.left input.old) (S.left input.new) result (drop to octets.new) }
+    ensures kept { take to octets.new ≡ take to octets.old }
+    ensures still { OnOk result (S.faults input.new ≡ S.faults input.old) }
     ensures cause { OnErr result (Rises (S.faults input.old) (S.faults input.new)) }
 {
     let count = input.read(&mut octets[to..])?;

@@ -13,8 +13,8 @@ records-init g c =
     let written = g.K.Sink.written c.args.out.now in
     record {
       going = ([], rw (c.in-Ok-make-2.ensures, c.in-Ok.ensures, c.in-Ok-make.ensures) (going_none left written));
-      input = omega arith;
-      out = omega arith;
+      input = refl;
+      out = refl;
       limit = omega (arith, ap length c.in-Ok.ensures);
       passed = omega arith;
     }
@@ -38,7 +38,7 @@ records-preserved-in-Answered g c =
         going_record _ _ _ _ _ _ _ _ _ h c.take.new.sessions (pending c.advance.new.self) (due c.take.new.self) n item f (omega (arith, c.in-Answered.ensures.2, inv.passed)) a.0 a.1 c.advance.ensures,
       );
       input = inv.input;
-      out = omega (arith, inv.out, c.make_room.ensures.count);
+      out = c.in-Ok-make_room.ensures.still ∙ inv.out;
       limit = omega (arith, inv.limit, ap length c.advance.ensures, length-drop n (pending c.records.ahead), front_length _ _ _ f);
       passed = omega (arith, c.in-Answered.ensures.2, inv.passed);
     }
@@ -168,8 +168,8 @@ records-preserved g c =
     let got = c.in-Ok-fill.ensures.ok in
     record {
       going = (inv.going.0, going_more _ _ _ _ _ _ _ _ _ w (g.S.Source.left c.fill.new.input) (pending c.fill.new.self) got.0 got.3 got.2);
-      input = omega (arith, inv.input, c.fill.ensures.count);
-      out = omega (arith, inv.out, c.make_room.ensures.count, c.flush.ensures.count);
+      input = c.in-Ok-fill.ensures.still ∙ inv.input;
+      out = wrote.still ∙ c.in-Ok-make_room.ensures.still ∙ inv.out;
       limit = omega (arith, ap length got.2, length-append (pending c.records.ahead) got.0, got.1, got.5, ap length c.pending-held.ensures);
       passed = inv.passed;
     }

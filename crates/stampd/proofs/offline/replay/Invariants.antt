@@ -1,4 +1,4 @@
-use Rattle.std.proofs.Common.{◌≤◌, List, length, ◌+◌, ◌-◌, ◌*◌, ◌^◌}
+use Rattle.std.proofs.Common.{◌≡◌, ◌≤◌, List, length, ◌+◌, ◌-◌, ◌*◌, ◌^◌}
 use Rattle.replay_format.specs.Records.{Item}
 use Rattle.stampd.specs.Buffers.{pending, due}
 use Rattle.stampd.proofs.Going.{Going}
@@ -7,8 +7,8 @@ use Rattle.stampd.proofs.offline.replay.Given as goal
 abbrev pub invariant-records : goal.invariant-records
 invariant-records g l = record {
   going : (records : List Item) × Going (g.S.Source.left l.fn.input) (g.S.Source.left l.input) (g.K.Sink.written l.fn.out) (g.K.Sink.written l.out) l.sessions (pending l.ahead) (due l.outbox) l.passed records;
-  input : g.S.Source.faults l.fn.input ≤ g.S.Source.faults l.input;
-  out : g.K.Sink.faults l.fn.out ≤ g.K.Sink.faults l.out;
+  input : g.S.Source.faults l.input ≡ g.S.Source.faults l.fn.input;
+  out : g.K.Sink.faults l.out ≡ g.K.Sink.faults l.fn.out;
   limit : l.passed + length (pending l.ahead) ≤ 2 ^ 30 + 524288;
   passed : l.passed ≤ 2 ^ 30;
 }
