@@ -38,6 +38,7 @@ fits_config m some small = record {
   offset = lit< tt;
   multiplier = small;
   info = (refl, bytes_more 0 (0 ∷ 0 ∷ 0 ∷ []) (lit< tt) (bytes_more 0 (0 ∷ 0 ∷ []) (lit< tt) (bytes_more 0 (0 ∷ []) (lit< tt) (bytes_more 0 [] (lit< tt) no_bytes))));
+  tlvs = lit< tt;
   block = tt;
 }
 
