@@ -4,14 +4,15 @@ use Rattle.std.proofs.lemmas.Bool.{cases_lt}
 use Rattle.slot_word.specs.Fields.{is_open_word}
 use Rattle.session_world.specs.declared.steps.TableSize.{TableSize}
 use Rattle.session_world.specs.declared.steps.Step.{Step}
+use Rattle.session_world.specs.declared.steps.Part.{Part}
 use Rattle.session_world.specs.declared.steps.Step.TheVariants.{Look, LoadKey, Draw, Split, LoadRow, Join, Announce, Retire}
 use Rattle.session_world.specs.Sizes.{IsWithinLimits}
 use Rattle.session_world.specs.Words.{word_index, HasRead}
 use Rattle.session_world.specs.Desk.{generation_of, key_word_of, is_split}
 use Rattle.session_world.specs.Worker.{announced, holds}
 use Rattle.session_world.specs.Allowed.{DeskMay, IsAllowed}
-use Rattle.session_world.specs.Runs.{CoreState, ended_part, state_after, first_state, own_steps, ScheduledStep, run, Runs}
-use Rattle.session_world.specs.Held.{ended_steps, all_steps, IsHeldBy, HoldsInPart, Held}
+use Rattle.session_world.specs.Runs.{CoreState, own_parts, ended_part, state_after, first_state, own_steps, ScheduledStep, run, Runs}
+use Rattle.session_world.specs.Held.{steps_of, all_steps, IsHeldBy, HoldsInPart, Held}
 use Rattle.session_world.proofs.BoolFacts.{true_ne_false, either_of, number_case, some_none, put_same, put_other, or_l, or_r, if_yes, if_no}
 use Rattle.session_world.proofs.DeskFacts.{split_inside}
 use Rattle.session_world.proofs.Holding.{Guard, MayHold, may_hold, spares, spared, desk_guard, new_guard, own_guard, other_guard}
@@ -45,11 +46,11 @@ may_on z xs ys (Draw slot n) may = holds_on xs ys slot may
 may_on z xs ys _ may = absurd may
 
 -- a worker that is split off has its living part before the others
-split_list : (c : CoreState) (w : ℕ) → is_split c.desk w ≡ true → all_steps c w ≡ c.living_part w ++ ended_steps c.ended_parts w
-split_list c w h = if_yes (is_split c.desk w) (c.living_part w ++ ended_steps c.ended_parts w) (ended_steps c.ended_parts w) h
+split_list : (c : CoreState) (w : ℕ) → is_split c.desk w ≡ true → all_steps c w ≡ c.living_part w ++ steps_of (own_parts c.ended_parts w)
+split_list c w h = if_yes (is_split c.desk w) (c.living_part w ++ steps_of (own_parts c.ended_parts w)) (steps_of (own_parts c.ended_parts w)) h
 
 pub holds_in_part : HoldsInPart
-holds_in_part c w i split h = ap (λ (xs : List Step). holds xs i) (split_list c w split) ∙ holds_on (c.living_part w) (ended_steps c.ended_parts w) i h
+holds_in_part c w i split h = ap (λ (xs : List Step). holds xs i) (split_list c w split) ∙ holds_on (c.living_part w) (steps_of (own_parts c.ended_parts w)) i h
 
 -- ---- steps of the desk leave what all parts of a worker have
 
@@ -58,7 +59,7 @@ abbrev list_if : Bool → List Step → List Step → List Step
 list_if b xs ys = if b then xs ++ ys else ys
 
 split_same : (z : TableSize) (c : CoreState) (k r w : ℕ) → is_split c.desk k ≡ false → all_steps (state_after z c 0 (Split k r)) w ≡ all_steps c w
-split_same z c k r w none = let ys : List Step = ended_steps c.ended_parts w in let part : List Step = (state_after z c 0 (Split k r)).living_part w in number_case w k
+split_same z c k r w none = let ys : List Step = steps_of (own_parts c.ended_parts w) in let part : List Step = (state_after z c 0 (Split k r)).living_part w in number_case w k
     (λ (x : w ≡ k).
     let now : ((w == k) || is_split c.desk w) ≡ true = or_l (w == k) (is_split c.desk w) (eq-eqb w k x) in
     let empty : part ≡ [] = rw (eq-eqb w k x) refl in
@@ -69,16 +70,16 @@ split_same z c k r w none = let ys : List Step = ended_steps c.ended_parts w in 
     ap (λ (b : Bool). list_if b part ys) now ∙ ap (λ (p : List Step). list_if (is_split c.desk w) p ys) same)
 
 join_same : (z : TableSize) (c : CoreState) (k r w : ℕ) → is_split c.desk k ≡ true → all_steps (state_after z c 0 (Join k r)) w ≡ all_steps c w
-join_same z c k r w split = let ys : List Step = ended_steps c.ended_parts w in let p = ended_part k (c.living_part k) c.desk in number_case w k
+join_same z c k r w split = let own : List Part = own_parts c.ended_parts w in let p : Part = ended_part k (c.living_part k) c.desk in number_case w k
     (λ (x : w ≡ k).
     let now : (not (w == k) && is_split c.desk w) ≡ false = rw (eq-eqb w k x) refl in
-    ap (λ (b : Bool). list_if b (c.living_part w) (ended_steps (p ∷ c.ended_parts) w)) now
-    ∙ (if_yes (w == k) (c.living_part k ++ ys) ys (eq-eqb w k x) ∙ ap (λ (j : ℕ). c.living_part j ++ ys) (sym x))
+    ap (λ (b : Bool). list_if b (c.living_part w) (steps_of (own_parts (p ∷ c.ended_parts) w))) now
+    ∙ (ap steps_of (if_yes (w == k) (p ∷ own) own (eq-eqb w k x)) ∙ ap (λ (j : ℕ). c.living_part j ++ steps_of own) (sym x))
     ∙ sym (split_list c w (ap (is_split c.desk) x ∙ split)))
     (λ (x : w ≢ k).
     let now : (not (w == k) && is_split c.desk w) ≡ is_split c.desk w = rw (ne_eqb w k x) refl in
-    ap (λ (b : Bool). list_if b (c.living_part w) (ended_steps (p ∷ c.ended_parts) w)) now
-    ∙ ap (λ (zs : List Step). list_if (is_split c.desk w) (c.living_part w) zs) (if_no (w == k) (c.living_part k ++ ys) ys (ne_eqb w k x)))
+    ap (λ (b : Bool). list_if b (c.living_part w) (steps_of (own_parts (p ∷ c.ended_parts) w))) now
+    ∙ ap (λ (zs : List Step). list_if (is_split c.desk w) (c.living_part w) zs) (ap steps_of (if_no (w == k) (p ∷ own) own (ne_eqb w k x))))
 
 desk_same : (z : TableSize) (c : CoreState) (s : Step) (w : ℕ) → DeskMay z c.desk s → all_steps (state_after z c 0 s) w ≡ all_steps c w
 desk_same z c (Split k r) w may = split_same z c k r w may.2
@@ -89,13 +90,13 @@ desk_same z c s w may = refl
 
 own_list : (z : TableSize) (c : CoreState) (v : ℕ) (s : Step) → is_split c.desk (suc v) ≡ true → all_steps (state_after z c (suc v) s) (suc v) ≡ s ∷ all_steps c (suc v)
 own_list z c v s split =
-    let ys : List Step = ended_steps c.ended_parts (suc v) in
+    let ys : List Step = steps_of (own_parts c.ended_parts (suc v)) in
     split_list (state_after z c (suc v) s) (suc v) split
     ∙ ap (λ (xs : List Step). xs ++ ys) (put_same c.living_part (suc v) (s ∷ c.living_part (suc v)))
     ∙ ap (λ (xs : List Step). s ∷ xs) (sym (split_list c (suc v) split))
 
 other_list : (z : TableSize) (c : CoreState) (v w : ℕ) (s : Step) → w ≢ suc v → all_steps (state_after z c (suc v) s) w ≡ all_steps c w
-other_list z c v w s n = ap (λ (p : List Step). list_if (is_split c.desk w) p (ended_steps c.ended_parts w)) (put_other c.living_part (suc v) (s ∷ c.living_part (suc v)) w n)
+other_list z c v w s n = ap (λ (p : List Step). list_if (is_split c.desk w) p (steps_of (own_parts c.ended_parts w))) (put_other c.living_part (suc v) (s ∷ c.living_part (suc v)) w n)
 
 -- ---- after every schedule that runs
 
@@ -115,7 +116,7 @@ worker_guarded z c v s t may has_read a =
     let d : CoreState = state_after z c (suc v) s in
     let inside : v < z.workers = let x = (split_inside z c.desk t.desk (suc v) may.0).1 in omega (arith, x) in
     let mine = a.guards v inside in
-    let holds_so : MayHold z (all_steps c (suc v)) s = subst (λ (xs : List Step). MayHold z xs s) (sym (split_list c (suc v) may.0)) (may_on z (c.living_part (suc v)) (ended_steps c.ended_parts (suc v)) s (may_hold z (c.living_part (suc v)) s may.1)) in
+    let holds_so : MayHold z (all_steps c (suc v)) s = subst (λ (xs : List Step). MayHold z xs s) (sym (split_list c (suc v) may.0)) (may_on z (c.living_part (suc v)) (steps_of (own_parts c.ended_parts (suc v))) s (may_hold z (c.living_part (suc v)) s may.1)) in
     record {
       guards = λ w lt. number_case (suc w) (suc v)
           (λ (x : suc w ≡ suc v). subst (λ (j : ℕ). Guard z d.words d.desk j (all_steps d j)) (sym x)

@@ -11,11 +11,11 @@ use Rattle.session_world.specs.Keys.{ConfigParts}
 use Rattle.session_world.specs.Desk.{is_split, config_at}
 use Rattle.session_world.specs.Answers.{Answer, opened, configured, counted, closed, expired, seen, drew, missed, late, with_configs, desk_gives, desk_answers, worker_answers}
 use Rattle.session_world.specs.Loads.{PartWords, AllPartWords}
-use Rattle.session_world.specs.Runs.{CoreState, ScheduledStep, run, Runs}
+use Rattle.session_world.specs.Runs.{CoreState, own_parts, ScheduledStep, run, Runs}
 use Rattle.session_world.specs.History.{Event}
 use Rattle.session_world.specs.Explains.{Span, ended_span, ended_spans, living_span, spans_of, answers_of_spans, answers_in, desk_events_before, IsInSpans, Explains}
 use Rattle.session_world.specs.OneOrder.{events_by}
-use Rattle.session_world.specs.Joined.{own_parts, IsEnded, AllEnded, IsOpening, AreOpenings, HasJoinedAll, AllTold, OneHistory, JoinedHistory}
+use Rattle.session_world.specs.Joined.{IsEnded, AllEnded, IsOpening, AreOpenings, HasJoinedAll, AllTold, OneHistory, JoinedHistory}
 use Rattle.session_world.proofs.ReadWords.{loaded_words}
 use Rattle.session_world.proofs.Rows.{part_reads_rows}
 use Rattle.session_world.proofs.Configs.{explained}

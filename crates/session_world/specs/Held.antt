@@ -1,5 +1,5 @@
 -- What stays while a worker holds a slot, also after it was joined (this project's own). The latest step comes first.
-use Rattle.std.specs.Prelude.{◌≡◌, ℕ, suc, ◌<◌, ◌==◌, true, if◌then◌else◌, List, [], ◌∷◌, ◌++◌, slice_index}
+use Rattle.std.specs.Prelude.{◌≡◌, ℕ, suc, ◌<◌, true, if◌then◌else◌, List, [], ◌∷◌, ◌++◌, slice_index}
 use Rattle.slot_word.specs.Fields.{generation_in}
 use Rattle.session_world.specs.declared.steps.TableSize.{TableSize}
 use Rattle.session_world.specs.declared.steps.Step.{Step}
@@ -8,19 +8,20 @@ use Rattle.session_world.specs.Sizes.{IsWithinLimits}
 use Rattle.session_world.specs.Words.{slot_at, key_at}
 use Rattle.session_world.specs.Desk.{is_split}
 use Rattle.session_world.specs.Worker.{holds}
-use Rattle.session_world.specs.Runs.{CoreState, ScheduledStep, run, Runs}
+use Rattle.session_world.specs.Runs.{CoreState, own_parts, ScheduledStep, run, Runs}
 
 abbrev pub word_at : CoreState → ℕ → ℕ
 word_at c p = slice_index c.words p
 
--- the steps of the worker w in the parts that have ended
-abbrev pub ended_steps : List Part → ℕ → List Step
-ended_steps [] w = []
-ended_steps (p ∷ ps) w = if w == p.worker then p.steps ++ ended_steps ps w else ended_steps ps w
+abbrev pub steps_of : List Part → List Step
+steps_of [] = []
+steps_of (p ∷ ps) = p.steps ++ steps_of ps
 
--- its steps in all its parts
+-- the steps of the worker w in all its parts, the living one and those that have ended
 abbrev pub all_steps : CoreState → ℕ → List Step
-all_steps c w = if is_split c.desk w then c.living_part w ++ ended_steps c.ended_parts w else ended_steps c.ended_parts w
+all_steps c w =
+    let ended = steps_of (own_parts c.ended_parts w) in
+    if is_split c.desk w then c.living_part w ++ ended else ended
 
 -- The worker holds slot i: since it last announced or retired, be it in an earlier part, a look at i found it open
 abbrev pub IsHeldBy : CoreState → ℕ → ℕ → Type 0

@@ -1,5 +1,5 @@
 -- One history for the desk and all workers that it has joined (this project's own). Lists have their latest entry first.
-use Rattle.std.specs.Prelude.{◌≡◌, ℕ, suc, ◌<◌, ◌≤◌, ◌==◌, false, if◌then◌else◌, List, [], ◌∷◌, ◌++◌, length, map}
+use Rattle.std.specs.Prelude.{◌≡◌, ℕ, suc, ◌<◌, ◌≤◌, false, List, [], ◌∷◌, ◌++◌, length, map}
 use Rattle.session_world.specs.declared.steps.TableSize.{TableSize}
 use Rattle.session_world.specs.declared.steps.Step.{Step}
 use Rattle.session_world.specs.declared.steps.Part.{Part}
@@ -7,18 +7,13 @@ use Rattle.session_world.specs.Sizes.{IsWithinLimits}
 use Rattle.session_world.specs.Keys.{ConfigParts}
 use Rattle.session_world.specs.Desk.{is_split, config_at}
 use Rattle.session_world.specs.Answers.{Answer, opened, with_configs, desk_answers, worker_answers}
-use Rattle.session_world.specs.Runs.{ScheduledStep, run, Runs, IsDeskOfOneSchedule}
+use Rattle.session_world.specs.Runs.{own_parts, ScheduledStep, run, Runs, IsDeskOfOneSchedule}
 use Rattle.session_world.specs.Rows.{ReadsRows}
 use Rattle.session_world.specs.History.{Event}
 use Rattle.session_world.specs.Explains.{Explains, answers_in}
 use Rattle.session_world.specs.OneOrder.{events_by}
 
 -- ---- the joined workers
-
--- the parts of the worker w
-abbrev pub own_parts : List Part → ℕ → List Part
-own_parts [] w = []
-own_parts (p ∷ ps) w = if w == p.worker then p ∷ own_parts ps w else own_parts ps w
 
 -- the worker w has one part, with these steps. It was split off after so many answers of the desk, or later
 abbrev pub IsEnded : List Part → ℕ → ℕ → List Step → Type 0

@@ -1,5 +1,5 @@
 -- The state of the table and of its actors, and the schedules that run (this project's own). Every list has its latest entry first.
-use Rattle.std.specs.Prelude.{◌≡◌, ℕ, zero, suc, true, List, [], ◌∷◌, length, slice_index}
+use Rattle.std.specs.Prelude.{◌≡◌, ℕ, zero, suc, ◌==◌, true, if◌then◌else◌, List, [], ◌∷◌, length, slice_index}
 use Rattle.session_world.specs.declared.steps.TableSize.{TableSize}
 use Rattle.session_world.specs.declared.steps.Step.{Step}
 use Rattle.session_world.specs.declared.steps.Part.{Part}
@@ -25,6 +25,11 @@ parts_after part _ = part
 -- a join ends the part
 abbrev pub ended_part : ℕ → List Step → List Step → Part
 ended_part w xs ds = record { worker = w; steps = xs; from = answers_at_split ds w; to = length (desk_answers ds) }
+
+-- the ended parts of the worker w, the latest first
+abbrev pub own_parts : List Part → ℕ → List Part
+own_parts [] w = []
+own_parts (p ∷ ps) w = if w == p.worker then p ∷ own_parts ps w else own_parts ps w
 
 abbrev pub ended_after : List Step → (ℕ → List Step) → List Part → Step → List Part
 ended_after ds part ended (Join worker read) = ended_part worker (part worker) ds ∷ ended
