@@ -12,13 +12,13 @@ use Rattle.stamp_packet.specs.declared.fields.SenderBase.{SenderBase}
 use Rattle.stamp_packet.specs.declared.fields.ReplyBase.{ReplyBase}
 use Rattle.stamp_packet.specs.declared.fields.Short.{Short}
 use Rattle.stamp_packet.specs.Plain.{read_of, sender_of}
-use Rattle.stamp_auth.specs.Request.{auth_sender_of}
-use Rattle.twamp_test.specs.Request.{test_sender_of}
-use Rattle.twamp_test.specs.Reply.{test_reply}
 use Rattle.reflect_core.specs.declared.session.Draw.{Draw}
 use Rattle.reflect_core.specs.declared.reflecting.Reply.{Reply}
 use Rattle.reflect_core.specs.Base.{reply_base}
-use Rattle.reflect_core.specs.Reflection.{Arrived, facts_of, Reflected, IsReply, plain_octets, auth_octets, reflected_octets}
+use Rattle.reflect_core.specs.declared.ends.Ends.{Ends}
+use Rattle.reflect_core.specs.Arrived.{Arrived}
+use Rattle.reflect_core.specs.Ends.{usual_ends, ends_after, ends_of}
+use Rattle.reflect_core.specs.Reflection.{Reflected, IsSentTo, IsReply, plain_reflection, auth_reflection, test_reflection, reflected_octets}
 
 -- ---- what was read
 
@@ -42,19 +42,33 @@ block_is key block e = sym (ap block_octets e)
 
 -- ---- the octets by mode
 
-pub plain_is : (mode : Mode) (x : Extra) (c : ConfigParts) (draw : Draw) (d : Arrived) → mode ≡ Plain → plain_octets c (facts_of draw) (reply_base c draw d.meta (sender_of d.octets)) d.octets ≡ reflected_octets mode x c draw d
+pub plain_is : (mode : Mode) (x : Extra) (c : ConfigParts) (draw : Draw) (d : Arrived) → mode ≡ Plain → plain_reflection c draw d ≡ reflected_octets mode x c draw d
 unfolding reflected_octets
 plain_is mode x c draw d e = rw e refl
 
-pub auth_is : (mode : Mode) (x : Extra) (c : ConfigParts) (draw : Draw) (d : Arrived) → mode ≡ Auth → auth_octets c (facts_of draw) (reply_base c draw d.meta (auth_sender_of d.octets)) d.octets ≡ reflected_octets mode x c draw d
+pub auth_is : (mode : Mode) (x : Extra) (c : ConfigParts) (draw : Draw) (d : Arrived) → mode ≡ Auth → auth_reflection c draw d ≡ reflected_octets mode x c draw d
 unfolding reflected_octets
 auth_is mode x c draw d e = rw e refl
 
-pub test_is : (mode : Mode) (x : Extra) (c : ConfigParts) (draw : Draw) (d : Arrived) → mode ≡ Twamp → test_reply x (reply_base c draw d.meta (test_sender_of d.octets)) d.octets ≡ reflected_octets mode x c draw d
+pub test_is : (mode : Mode) (x : Extra) (c : ConfigParts) (draw : Draw) (d : Arrived) → mode ≡ Twamp → test_reflection x c draw d ≡ reflected_octets mode x c draw d
 unfolding reflected_octets
 test_is mode x c draw d e = rw e refl
 
-pub replied : (r : Reflected) (reply : Reply) (old new out octets : List ℕ) (len : ℕ) → reply.from ≡ r.from → reply.to ≡ r.to → new ≡ out → reply.len ≡ len → out ≡ octets ++ drop len old → octets ≡ r.octets → length new ≡ length old → reply.len ≤ length old → IsReply r reply old new
-replied r reply old new out octets len from to same end_ e is kept le =
-    let all : new ≡ r.octets ++ drop reply.len old = same ∙ e ∙ ap (λ (x : List ℕ). x ++ drop len old) is ∙ ap (λ (n : ℕ). r.octets ++ drop n old) (sym end_) in
-    record { from = from; to = to; len = sym (length_written r.octets old new reply.len all kept le); octets = all }
+-- ---- the ends by mode
+
+pub plain_ends : (mode : Mode) (c : ConfigParts) (d : Arrived) → mode ≡ Plain → ends_after 44 Plain c d ≡ ends_of mode c d
+unfolding ends_of
+plain_ends mode c d e = rw e refl
+
+pub auth_ends : (mode : Mode) (c : ConfigParts) (d : Arrived) → mode ≡ Auth → ends_after 112 Auth c d ≡ ends_of mode c d
+unfolding ends_of
+auth_ends mode c d e = rw e refl
+
+pub test_ends : (mode : Mode) (c : ConfigParts) (d : Arrived) → mode ≡ Twamp → usual_ends d.meta ≡ ends_of mode c d
+unfolding ends_of
+test_ends mode c d e = rw e refl
+
+pub replied : (r : Reflected) (ends : Ends) (reply : Reply) (old new octets : List ℕ) → IsSentTo ends reply → ends.from ≡ r.from → ends.to ≡ r.to → new ≡ octets ++ drop reply.len old → octets ≡ r.octets → length new ≡ length old → reply.len ≤ length old → IsReply r reply old new
+replied r ends reply old new octets sent from to e is kept le =
+    let all : new ≡ r.octets ++ drop reply.len old = e ∙ ap (λ (x : List ℕ). x ++ drop reply.len old) is in
+    record { from = sent.from ∙ from; to = sent.to ∙ to; len = sym (length_written r.octets old new reply.len all kept le); octets = all }

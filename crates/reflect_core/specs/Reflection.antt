@@ -1,11 +1,10 @@
--- The reflection of a datagram (RFC 8762, section 4.3; RFC 8972; RFC 5357, section 4.2; RFC 6038).
+-- The reflection of a datagram (RFC 8762, section 4.3; RFC 8972; RFC 9503; RFC 5357, section 4.2; RFC 6038).
 use Rattle.std.specs.Prelude.{◌≡◌, ℕ, List, ◌++◌, length, drop}
 use Rattle.refl_types.specs.declared.types.Mode.{Mode}
 use Rattle.refl_types.specs.declared.types.Mode.TheVariants.{Plain, Auth, Twamp}
 use Rattle.refl_types.specs.declared.types.Endpoint.{Endpoint}
 use Rattle.refl_types.specs.declared.types.Extra.{Extra}
 use Rattle.refl_types.specs.declared.types.Key.{Key}
-use Rattle.refl_types.specs.declared.types.Meta.{Meta}
 use Rattle.refl_types.specs.declared.config.ConfigParts.{ConfigParts}
 use Rattle.refl_types.specs.Spelling.{block_octets}
 use Rattle.stamp_packet.specs.declared.fields.ReplyBase.{ReplyBase}
@@ -14,26 +13,18 @@ use Rattle.stamp_auth.specs.Request.{auth_sender_of}
 use Rattle.stamp_auth.specs.Reply.{auth_reply}
 use Rattle.twamp_test.specs.Request.{test_sender_of}
 use Rattle.twamp_test.specs.Reply.{test_reply}
-use Rattle.tlv_actions.specs.declared.reply.ReplyFacts.{ReplyFacts}
-use Rattle.reflect_core.specs.declared.session.Datagram as datagrams
+use Rattle.tlv_actions.specs.declared.facts.ReplyFacts.{ReplyFacts}
 use Rattle.reflect_core.specs.declared.session.Draw.{Draw}
+use Rattle.reflect_core.specs.declared.ends.Ends.{Ends}
 use Rattle.reflect_core.specs.declared.reflecting.Reply.{Reply}
+use Rattle.reflect_core.specs.Arrived.{Arrived}
 use Rattle.reflect_core.specs.Base.{reply_base}
+use Rattle.reflect_core.specs.Ends.{plan_after, ends_of}
 use Rattle.reflect_core.specs.Tail.{tail_after}
 
--- ---- what a reply is made of
-
--- a datagram: what is told of it, and its octets
-pub record Arrived : Type 0 where
-  pub meta : Meta
-  pub octets : List ℕ
-
-abbrev pub arrived : datagrams.Datagram → Arrived
-arrived d = record { meta = d.meta.now; octets = d.octets.now }
-
--- what the TLVs of a reply tell
-abbrev pub facts_of : Draw → ReplyFacts
-facts_of draw = record { n = draw.number }
+-- what the TLVs of a reply tell, behind a base packet of as many octets
+abbrev pub facts_after : ℕ → ConfigParts → Draw → Arrived → ReplyFacts
+facts_after len c draw d = record { n = draw.number; plan = plan_after len c d }
 
 -- ---- the octets, from the fields of the base packet
 
@@ -43,24 +34,19 @@ plain_octets c facts base octets = plain_reply base ++ tail_after 44 Plain c fac
 abbrev pub auth_octets : ConfigParts → ReplyFacts → ReplyBase → List ℕ → List ℕ
 auth_octets c facts base octets = auth_reply (block_octets c.key) base ++ tail_after 112 Auth c facts base.sequence octets
 
+abbrev pub plain_reflection : ConfigParts → Draw → Arrived → List ℕ
+plain_reflection c draw d = plain_octets c (facts_after 44 c draw d) (reply_base c draw d.meta (sender_of d.octets)) d.octets
+
+abbrev pub auth_reflection : ConfigParts → Draw → Arrived → List ℕ
+auth_reflection c draw d = auth_octets c (facts_after 112 c draw d) (reply_base c draw d.meta (auth_sender_of d.octets)) d.octets
+
+abbrev pub test_reflection : Extra → ConfigParts → Draw → Arrived → List ℕ
+test_reflection x c draw d = test_reply x (reply_base c draw d.meta (test_sender_of d.octets)) d.octets
+
 unfoldable pub reflected_octets : Mode → Extra → ConfigParts → Draw → Arrived → List ℕ
-reflected_octets Plain x c draw d = plain_octets c (facts_of draw) (reply_base c draw d.meta (sender_of d.octets)) d.octets
-reflected_octets Auth x c draw d = auth_octets c (facts_of draw) (reply_base c draw d.meta (auth_sender_of d.octets)) d.octets
-reflected_octets Twamp x c draw d = test_reply x (reply_base c draw d.meta (test_sender_of d.octets)) d.octets
-
--- ---- a buffer that begins with the reply of each mode, and is as before past its length
-
-abbrev pub WritesPlain : ConfigParts → ReplyFacts → Draw → Arrived → List ℕ → List ℕ → Type 0
-WritesPlain c facts draw d old new =
-    new ≡ plain_octets c facts (reply_base c draw d.meta (sender_of d.octets)) d.octets ++ drop (length d.octets) old
-
-abbrev pub WritesAuth : ConfigParts → ReplyFacts → Draw → Arrived → List ℕ → List ℕ → Type 0
-WritesAuth c facts draw d old new =
-    new ≡ auth_octets c facts (reply_base c draw d.meta (auth_sender_of d.octets)) d.octets ++ drop (length d.octets) old
-
-abbrev pub WritesTest : Extra → ConfigParts → Draw → Arrived → ℕ → List ℕ → List ℕ → Type 0
-WritesTest x c draw d len old new =
-    new ≡ test_reply x (reply_base c draw d.meta (test_sender_of d.octets)) d.octets ++ drop len old
+reflected_octets Plain x c draw d = plain_reflection c draw d
+reflected_octets Auth x c draw d = auth_reflection c draw d
+reflected_octets Twamp x c draw d = test_reflection x c draw d
 
 -- ---- a reply: from which local address, to whom, and its octets
 
@@ -73,10 +59,15 @@ pub record Reflected : Type 0 where
 -- sending
 abbrev pub reflection : Key → Extra → ConfigParts → Draw → Arrived → Reflected
 reflection k x c draw d = record {
-  from = d.meta.local;
-  to = d.meta.peer;
+  from = (ends_of k.mode c d).from;
+  to = (ends_of k.mode c d).to;
   octets = reflected_octets k.mode x c draw d;
 }
+
+-- a reply is sent between these ends
+pub record IsSentTo (ends : Ends) (reply : Reply) : Type 0 where
+  pub from : reply.from ≡ ends.from
+  pub to : reply.to ≡ ends.to
 
 -- A reply was written to the front of a buffer. All other octets are as before.
 pub record IsReply (r : Reflected) (reply : Reply) (old new : List ℕ) : Type 0 where

@@ -1,6 +1,6 @@
 -- The tail of a reply (RFC 8972, section 4). What follows a malformed TLV, what becomes of a rest, and the flags after
 -- a failed integrity are this project's own.
-use Rattle.std.specs.Prelude.{◌≡◌, ℕ, nat_lt, if◌then◌else◌, List, [], ◌∷◌, ◌++◌, length, take, drop, get_or, bit_or}
+use Rattle.std.specs.Prelude.{◌≡◌, ℕ, ◌+◌, nat_lt, if◌then◌else◌, List, [], ◌∷◌, ◌++◌, length, take, drop, get_or, bit_or}
 use Rattle.std.specs.Int.{w32, to_be_bytes}
 use Rattle.octet_format.specs.Octets.{field}
 use Rattle.refl_types.specs.declared.types.Mode.{Mode}
@@ -8,8 +8,8 @@ use Rattle.refl_types.specs.declared.config.ConfigParts.{ConfigParts}
 use Rattle.refl_types.specs.Spelling.{block_octets}
 use Rattle.tlv_chain.specs.Tlv.{Tlv, tlv_octets, tlvs_octets, unrecognized, malformed, integrity_failed}
 use Rattle.tlv_chain.specs.Split.{Split, split}
-use Rattle.tlv_actions.specs.declared.reply.ReplyFacts.{ReplyFacts}
-use Rattle.tlv_actions.specs.Rows.{is_understood, is_malformed, reply_tlv}
+use Rattle.tlv_actions.specs.declared.facts.ReplyFacts.{ReplyFacts}
+use Rattle.tlv_actions.specs.Rows.{is_understood, is_malformed_at, reply_tlv}
 use Rattle.tlv_integrity.specs.declared.integrity.Integrity.{Integrity}
 use Rattle.tlv_integrity.specs.declared.integrity.Integrity.TheVariants.{Absent, Passed, Failed}
 use Rattle.tlv_integrity.specs.Integrity.{integrity}
@@ -37,13 +37,18 @@ failed_reply s = flagged_octets s.tlvs ++ with_flags (bit_or (get_or s.rest 0 0)
 abbrev pub rest_flags : ConfigParts → List ℕ → ℕ
 rest_flags c rest = if is_understood c (get_or rest 1 0) then malformed else bit_or malformed unrecognized
 
-abbrev pub processed : ConfigParts → ReplyFacts → List Tlv → List ℕ → List ℕ
-processed c facts [] rest = with_flags (rest_flags c rest) rest
-processed c facts (t ∷ ts) rest =
-    tlv_octets (reply_tlv c facts t) ++ (if is_malformed c t then tlvs_octets ts ++ rest else processed c facts ts rest)
+-- those that stand from a place on
+abbrev pub processed : ConfigParts → ReplyFacts → ℕ → List Tlv → List ℕ → List ℕ
+processed c facts at [] rest = with_flags (rest_flags c rest) rest
+processed c facts at (t ∷ ts) rest =
+    tlv_octets (reply_tlv c facts at t)
+    ++ (if is_malformed_at c facts.plan at t then tlvs_octets ts ++ rest else processed c facts (at + 4 + length t.value) ts rest)
+
+abbrev pub processed_from : ConfigParts → ReplyFacts → ℕ → Split → List ℕ
+processed_from c facts at s = processed c facts at s.tlvs s.rest
 
 abbrev pub processed_reply : ConfigParts → ReplyFacts → Split → List ℕ
-processed_reply c facts s = processed c facts s.tlvs s.rest
+processed_reply c facts s = processed_from c facts 0 s
 
 -- ---- the tail of a reply
 

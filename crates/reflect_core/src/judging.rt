@@ -1,16 +1,21 @@
-//! Whether a datagram of a session is reflected (RFC 8762, section 4.3).
+//! Whether a datagram of a session is reflected (RFC 8762, section 4.3; RFC 9503, section 4.1.1).
 
-ghost use Rattle.std.specs.Prelude.{◌≡◌, IsSome};
+ghost use Rattle.std.specs.Prelude.{◌≡◌, ◌≤◌, IsSome, length};
 ghost use Rattle.refl_types.specs.HmacKey.{HasHmacKey};
-ghost use Rattle.reflect_core.specs.Judgement.{judgement, judged_length};
+ghost use Rattle.reflect_core.specs.Judgement.{judgement, judged_length, judged_tail};
 
 use crate::session::Session;
+use crate::tails::has_intact_tail;
 use keyed_config::KeyedConfig;
 use refl_types::{Config, Extra, Key, Mode, Silent};
 use stamp_auth::{AuthFault, read_auth_keyed};
+use tlv_actions::no_reply;
 
 /// Octets of an unauthenticated base packet.
 const PLAIN_LEN: usize = 44;
+
+/// Octets of an authenticated base packet.
+const AUTH_LEN: usize = 112;
 
 /// Octets of a TWAMP-Test packet before its padding.
 const TEST_LEN: usize = 14;
@@ -41,6 +46,32 @@ fn judge_length(octets: &[u8], least: usize) -> Judged
     }
 }
 
+/// Whether the tail behind a base packet of as many octets asks for no reply. That is rare, so its integrity is looked
+/// at last.
+#[inline(always)]
+fn judge_tail(mode: Mode, config: &KeyedConfig, octets: &[u8], at: usize) -> Judged
+    requires base { 4 ≤ at }
+    requires tail { at ≤ length octets.now }
+    ensures { result ≡ judged_tail at mode config.now octets.now }
+{
+    let (_, tail) = octets.split_at(at);
+    if no_reply(config.config(), tail) && has_intact_tail(mode, config, octets, at) {
+        Judged::Silent(Silent::NoReply)
+    } else {
+        Judged::Reflect
+    }
+}
+
+#[inline(always)]
+fn judge_plain(config: &KeyedConfig, octets: &[u8]) -> Judged
+    ensures { result ≡ judgement Mode.Plain config.now octets.now }
+{
+    if octets.len() < PLAIN_LEN {
+        return Judged::Silent(Silent::Short);
+    }
+    judge_tail(Mode::Plain, config, octets, PLAIN_LEN)
+}
+
 #[inline(never)]
 fn judge_auth(config: &KeyedConfig, octets: &[u8]) -> Judged
     requires { IsSome config.now.key }
@@ -50,7 +81,7 @@ fn judge_auth(config: &KeyedConfig, octets: &[u8]) -> Judged
         unreachable!();
     };
     match read_auth_keyed(key, octets) {
-        Ok(_) => Judged::Reflect,
+        Ok(_) => judge_tail(Mode::Auth, config, octets, AUTH_LEN),
         Err(AuthFault::Short) => Judged::Silent(Silent::Short),
         Err(AuthFault::BadHmac) => Judged::Silent(Silent::BadHmac),
     }
@@ -58,13 +89,13 @@ fn judge_auth(config: &KeyedConfig, octets: &[u8]) -> Judged
 
 impl Session<'_> {
     /// Whether a datagram of the session is reflected: not where it is shorter than the base packet of the session's
-    /// mode, and in mode Auth not where the HMAC of its base packet is another.
+    /// mode, in mode Auth not where the HMAC of its base packet is another, and not where its tail asks for no reply.
     #[inline(always)]
     pub fn judge(&self, octets: &[u8]) -> Judged
         ensures { result ≡ judgement self.now.key.now.mode self.now.config.now octets.now }
     {
         match self.key.mode {
-            Mode::Plain => judge_length(octets, PLAIN_LEN),
+            Mode::Plain => judge_plain(self.config, octets),
             Mode::Twamp => judge_length(octets, TEST_LEN),
             Mode::Auth => judge_auth(self.config, octets),
         }

@@ -1,8 +1,9 @@
 //! The reflection of one datagram: a function of the datagram, its session's configuration and the number that was
-//! drawn (RFC 8762, section 4.3; RFC 8972; RFC 5357, section 4.2). It knows no clock and no socket, and takes no memory.
+//! drawn (RFC 8762, section 4.3; RFC 8972; RFC 9503; RFC 5357, section 4.2). It knows no clock and no socket, and takes no memory.
 #![tactic(auto)]
 
 mod base;
+mod ends;
 mod judging;
 mod reflecting;
 mod session;

@@ -4,7 +4,7 @@ ghost use Rattle.std.specs.Prelude.{◌≡◌, IsSome};
 ghost use Rattle.refl_types.specs.declared.types.Mode.TheVariants.{Auth};
 
 use keyed_config::KeyedConfig;
-use refl_types::{Extra, Key, Meta};
+use refl_types::{Extra, Key, LocalAddr, Meta};
 
 /// A session, as whoever keeps it lends it.
 #[derive(Clone, Copy)]
@@ -25,6 +25,8 @@ pub struct Datagram<'a> {
     /// What is told of it.
     pub meta: &'a Meta,
     pub octets: &'a [u8],
+    /// The reflector's own addresses, by their numbers. There are at most 16.
+    pub locals: &'a [LocalAddr],
 }
 
 /// What is drawn for a reply.

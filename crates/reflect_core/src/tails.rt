@@ -2,12 +2,17 @@
 
 ghost use Rattle.std.specs.Prelude.{◌≡◌, ◌+◌, ◌≤◌, ◌++◌, length, take, slice_index_or};
 ghost use Rattle.tlv_chain.specs.Split.{split};
+ghost use Rattle.tlv_integrity.specs.Integrity.{integrity};
+ghost use Rattle.reflect_core.specs.Arrived.{arrived};
 ghost use Rattle.reflect_core.specs.Tail.{failed_reply, processed_reply, WritesTail, tail_reply, with_flags, rest_flags};
+ghost use Rattle.reflect_core.specs.Ends.{is_intact, has_intact_tail, plan_after, ends_after};
 
+use crate::ends::{Ends, planned_ends, usual_ends};
+use crate::session::Datagram;
 use keyed_config::KeyedConfig;
 use octet_format::{field4, put};
 use refl_types::Mode;
-use tlv_actions::{Acted, ReplyFacts, act, copy_tlv, is_understood};
+use tlv_actions::{Acted, ReplyFacts, act, copy_tlv, is_understood, plan};
 use tlv_chain::Walk;
 use tlv_integrity::{Integrity, check_keyed, seal_keyed};
 
@@ -81,14 +86,14 @@ fn rest_flags(config: &KeyedConfig, rest: &[u8]) -> u8
 
 /// Writes what the reply has for each TLV, up to a malformed one.
 #[inline(never)]
-fn process(config: &KeyedConfig, facts: ReplyFacts, tail: &[u8], out: &mut [u8])
+fn process(config: &KeyedConfig, facts: &ReplyFacts, tail: &[u8], out: &mut [u8])
     requires { length out.old ≡ length tail.now }
-    ensures { out.new ≡ processed_reply config.now facts (split tail.now) }
+    ensures { out.new ≡ processed_reply config.now facts.now (split tail.now) }
 {
     put_last(tail, 0, out);
     let mut walk = Walk::new(tail);
     while let Some(span) = walk.next() {
-        if let Acted::Malformed = act(config.config(), &facts, tail, &span, out) {
+        if let Acted::Malformed = act(config.config(), facts, tail, &span, out) {
             return;
         }
     }
@@ -96,9 +101,10 @@ fn process(config: &KeyedConfig, facts: ReplyFacts, tail: &[u8], out: &mut [u8])
     write_rest(rest, rest_flags(config, rest), walk.rest(), out);
 }
 
-/// Writes the tail of a reply, under the Sequence Numbers of the request and of the reply.
+/// Writes the tail of a reply, under the Sequence Numbers of the request and of the reply, and says whether the
+/// integrity of the request's tail hasn't failed.
 #[inline(always)]
-pub fn write_tail(
+fn write_tail(
     mode: Mode,
     config: &KeyedConfig,
     facts: &ReplyFacts,
@@ -106,67 +112,98 @@ pub fn write_tail(
     answered: &[u8; 4],
     tail: &[u8],
     out: &mut [u8],
-)
+) -> bool
     requires { length out.old ≡ length tail.now }
-    ensures { out.new ≡ tail_reply mode config.now facts.now asked.now answered.now tail.now }
+    ensures octets { out.new ≡ tail_reply mode config.now facts.now asked.now answered.now tail.now }
+    ensures intact { result ≡ is_intact (integrity mode config.now asked.now tail.now) }
 {
     match check_keyed(mode, config, asked, tail) {
-        Integrity::Failed => flag_all(tail, out),
-        Integrity::Absent => process(config, *facts, tail, out),
+        Integrity::Failed => {
+            flag_all(tail, out);
+            false
+        }
+        Integrity::Absent => {
+            process(config, facts, tail, out);
+            true
+        }
         Integrity::Passed(at) => {
-            process(config, *facts, tail, out);
+            process(config, facts, tail, out);
             seal_keyed(config, answered, out, at);
+            true
         }
     }
 }
 
-/// Writes the tail of a reply after its base packet, which has as many octets as the request's.
+/// Writes the tail of a reply after its base packet, which has as many octets as the request's, and says from where and
+/// to whom the reply goes.
 #[inline(always)]
 fn write_tail_at(
     mode: Mode,
     config: &KeyedConfig,
-    facts: &ReplyFacts,
+    number: u32,
     sequence: u32,
     at: usize,
-    input: &[u8],
+    datagram: &Datagram,
     out: &mut [u8],
-)
+) -> Ends
     requires base { 4 ≤ at }
-    requires tail { at ≤ length input.now }
-    requires room { length input.now ≤ length out.old }
-    ensures { WritesTail mode config.now facts.now sequence at input.now out.old out.new }
+    requires tail { at ≤ length datagram.now.octets.now }
+    requires locals { length datagram.now.locals.now ≤ 16 }
+    requires room { length datagram.now.octets.now ≤ length out.old }
+    ensures octets { WritesTail mode config.now (record { n = number; plan = plan_after at config.now (arrived datagram.now) }) sequence at datagram.now.octets.now out.old out.new }
+    ensures ends { result ≡ ends_after at mode config.now (arrived datagram.now) }
 {
+    let input = datagram.octets;
     let (_, tail) = input.split_at(at);
+    let facts = ReplyFacts {
+        n: number,
+        plan: plan(config.config(), datagram.locals, datagram.meta, tail),
+    };
     let asked = field4(input, 0);
     let answered = sequence.to_be_bytes();
-    write_tail(
-        mode,
-        config,
-        facts,
-        &asked,
-        &answered,
-        tail,
-        &mut out[at..input.len()],
-    );
+    let out = &mut out[at..input.len()];
+    if write_tail(mode, config, &facts, &asked, &answered, tail, out) {
+        planned_ends(&facts.plan)
+    } else {
+        usual_ends(datagram.meta)
+    }
 }
 
-/// Writes the tail of a reply after its base packet, if there is one. Most datagrams have none.
+/// Writes the tail of a reply after its base packet, if there is one, and says from where and to whom the reply goes.
+/// Most datagrams have no tail.
 #[inline(always)]
 pub fn write_tail_after(
     mode: Mode,
     config: &KeyedConfig,
-    facts: &ReplyFacts,
+    number: u32,
     sequence: u32,
     at: usize,
-    input: &[u8],
+    datagram: &Datagram,
     out: &mut [u8],
-)
+) -> Ends
     requires base { 4 ≤ at }
-    requires tail { at ≤ length input.now }
-    requires room { length input.now ≤ length out.old }
-    ensures { WritesTail mode config.now facts.now sequence at input.now out.old out.new }
+    requires tail { at ≤ length datagram.now.octets.now }
+    requires locals { length datagram.now.locals.now ≤ 16 }
+    requires room { length datagram.now.octets.now ≤ length out.old }
+    ensures octets { WritesTail mode config.now (record { n = number; plan = plan_after at config.now (arrived datagram.now) }) sequence at datagram.now.octets.now out.old out.new }
+    ensures ends { result ≡ ends_after at mode config.now (arrived datagram.now) }
 {
-    if input.len() > at {
-        write_tail_at(mode, config, facts, sequence, at, input, out);
+    if datagram.octets.len() > at {
+        write_tail_at(mode, config, number, sequence, at, datagram, out)
+    } else {
+        usual_ends(datagram.meta)
     }
+}
+
+/// Whether the integrity of the tail behind a base packet of as many octets hasn't failed.
+pub fn has_intact_tail(mode: Mode, config: &KeyedConfig, octets: &[u8], at: usize) -> bool
+    requires base { 4 ≤ at }
+    requires tail { at ≤ length octets.now }
+    ensures { result ≡ has_intact_tail at mode config.now octets.now }
+{
+    let (_, tail) = octets.split_at(at);
+    !matches!(
+        check_keyed(mode, config, &field4(octets, 0), tail),
+        Integrity::Failed
+    )
 }

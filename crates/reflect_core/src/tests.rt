@@ -100,7 +100,17 @@ fn answer(
         arrival: 0,
     };
     let mut out = vec![in alloc; 0xEE; 65_536]?;
-    let reply = reflect(key, extra, config, n, &meta, 999_999_999, input, &mut out);
+    let reply = reflect(
+        key,
+        extra,
+        config,
+        &[],
+        n,
+        &meta,
+        999_999_999,
+        input,
+        &mut out,
+    );
     out.truncate(reply.len);
     Ok(out)
 }

@@ -18,7 +18,11 @@ fn write_here(session: &Session, meta: &Meta, t3: u64, octets: &[u8], out: &mut 
     requires room { ANSWER_ROOM ≤ length out.old }
     ensures { IsSent session.now (datagram_of meta.now t3 octets.now) out.old out.new result }
 {
-    let datagram = Datagram { meta, octets };
+    let datagram = Datagram {
+        meta,
+        octets,
+        locals: &[],
+    };
     let draw = Draw {
         number: session.count,
         sending: t3,

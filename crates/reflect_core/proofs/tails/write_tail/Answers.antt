@@ -5,14 +5,14 @@ use Rattle.tlv_integrity.specs.Sealing.{sealed}
 use Rattle.reflect_core.proofs.Empty.{tail_by}
 use Rattle.reflect_core.proofs.tails.write_tail.Goals as goal
 
-pub returns-in-Failed : goal.returns-in-Failed
-returns-in-Failed c = c.flag_all.ensures ∙ tail_by c.args.mode c.args.config.now c.args.facts.now c.args.asked.now c.args.answered.now c.args.tail.now Failed c.in-Failed.ensures.value
+pub returns-in-Failed-clause-octets : goal.returns-in-Failed-clause-octets
+returns-in-Failed-clause-octets c = c.flag_all.ensures ∙ tail_by c.args.mode c.args.config.now c.args.facts.now c.args.asked.now c.args.answered.now c.args.tail.now Failed c.in-Failed.ensures.value
 
-pub returns-in-Absent : goal.returns-in-Absent
-returns-in-Absent c = c.process.ensures ∙ tail_by c.args.mode c.args.config.now c.args.facts.now c.args.asked.now c.args.answered.now c.args.tail.now Absent c.in-Absent.ensures.value
+pub returns-in-Absent-clause-octets : goal.returns-in-Absent-clause-octets
+returns-in-Absent-clause-octets c = c.process.ensures ∙ tail_by c.args.mode c.args.config.now c.args.facts.now c.args.asked.now c.args.answered.now c.args.tail.now Absent c.in-Absent.ensures.value
 
-pub returns-in-Passed : goal.returns-in-Passed
-returns-in-Passed c =
+pub returns-in-Passed-clause-octets : goal.returns-in-Passed-clause-octets
+returns-in-Passed-clause-octets c =
     c.seal_keyed.ensures
     ∙ ap (sealed (block_octets c.args.config.now.key) c.args.answered.now c.in-Passed.at) c.process-in-Passed.ensures
     ∙ tail_by c.args.mode c.args.config.now c.args.facts.now c.args.asked.now c.args.answered.now c.args.tail.now (Passed c.in-Passed.at) c.in-Passed.ensures.value

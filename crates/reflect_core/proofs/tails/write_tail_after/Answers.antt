@@ -3,22 +3,30 @@ use Rattle.std.specs.Int.{w32, to_be_bytes}
 use Rattle.std.proofs.lemmas.List.{take-append-drop, append-nil}
 use Rattle.std.proofs.Math.ListN.{drop_of_length-le}
 use Rattle.octet_format.specs.Octets.{field}
+use Rattle.tlv_actions.specs.declared.facts.ReplyFacts.{ReplyFacts}
+use Rattle.reflect_core.specs.Arrived.{arrived}
+use Rattle.reflect_core.specs.Ends.{plan_after}
 use Rattle.reflect_core.specs.Tail.{tail_reply, tail_after}
-use Rattle.reflect_core.proofs.Empty.{tail_reply-nil}
+use Rattle.reflect_core.proofs.Empty.{tail_reply-nil, ends_empty}
 use Rattle.reflect_core.proofs.tails.write_tail_after.Goals as goal
 
-pub returns-else-input-at : goal.returns-else-input-at
-returns-else-input-at c =
-    let input = c.args.input.now in
+pub returns-else-datagram-at-clause-octets : goal.returns-else-datagram-at-clause-octets
+returns-else-datagram-at-clause-octets c =
+    let input = c.args.datagram.now.octets.now in
+    let facts : ReplyFacts = record { n = c.args.number; plan = plan_after c.args.at c.args.config.now (arrived c.args.datagram.now) } in
     let out = c.args.out.now in
     let at = c.args.at in
     let same : at ≡ length input = omega arith in
     let none : drop at input ≡ [] = drop_of_length-le input (omega arith) in
     let asked = field 0 4 input in
     let answered : List ℕ = to_be_bytes w32 c.args.sequence in
-    let empty : tail_after at c.args.mode c.args.config.now c.args.facts.now c.args.sequence input ≡ [] =
-    ap (tail_reply c.args.mode c.args.config.now c.args.facts.now asked answered) none ∙ tail_reply-nil c.args.mode c.args.config.now c.args.facts.now asked answered in
+    let empty : tail_after at c.args.mode c.args.config.now facts c.args.sequence input ≡ [] =
+    ap (tail_reply c.args.mode c.args.config.now facts asked answered) none ∙ tail_reply-nil c.args.mode c.args.config.now facts asked answered in
     sym (take-append-drop at out)
     ∙ ap (λ (x : List ℕ). x ++ drop at out) (sym (append-nil (take at out)))
     ∙ ap (λ (x : List ℕ). take at out ++ x ++ drop at out) (sym empty)
-    ∙ ap (λ (n : ℕ). take at out ++ tail_after at c.args.mode c.args.config.now c.args.facts.now c.args.sequence input ++ drop n out) same
+    ∙ ap (λ (n : ℕ). take at out ++ tail_after at c.args.mode c.args.config.now facts c.args.sequence input ++ drop n out) same
+
+pub returns-else-datagram-at-clause-ends : goal.returns-else-datagram-at-clause-ends
+returns-else-datagram-at-clause-ends c =
+    c.usual_ends.ensures ∙ ends_empty c.args.at c.args.mode c.args.config.now (arrived c.args.datagram.now) (drop_of_length-le c.args.datagram.now.octets.now (omega arith))

@@ -1,8 +1,9 @@
-use Rattle.std.proofs.Common.{ℕ, ◌+◌, ◌-◌, ◌++◌, length, take, drop, sym, ap, ◌∙◌, arith}
+use Rattle.std.proofs.Common.{ℕ, ◌+◌, ◌-◌, [], ◌++◌, length, take, drop, sym, ap, ◌∙◌, arith}
 use borrow.Rule.Slice.PartMut.{put_mid}
 use Rattle.refl_types.specs.declared.types.Endpoint.{Endpoint}
 use Rattle.reflect_core.specs.declared.session.Draw.{Draw}
-use Rattle.reflect_core.specs.Reflection.{Arrived, Reflected, reflection}
+use Rattle.reflect_core.specs.Arrived.{Arrived}
+use Rattle.reflect_core.specs.Reflection.{Reflected, reflection}
 use Rattle.replay_format.specs.Answers.{Sending, answer_octets, sent_octets}
 use Rattle.replay_format.proofs.AnswerFacts.{framed_behind}
 use Rattle.replay_table.specs.Reflection.{sent_under}
@@ -14,7 +15,7 @@ unfolding answer_octets
 returns c =
     let s = c.args.session.now in
     let draw : Draw = record { number = s.count; sending = c.args.t3 } in
-    let d : Arrived = record { meta = c.args.meta.now; octets = c.args.octets.now } in
+    let d : Arrived = record { meta = c.args.meta.now; octets = c.args.octets.now; locals = [] } in
     let r : Reflected = reflection s.key s.extra s.config draw d in
     let lent = c.reflector.result in
     let same = c.reflector.ensures in

@@ -1,27 +1,52 @@
-use Rattle.std.proofs.Common.{◌∙◌, length, arith}
-use Rattle.stamp_packet.specs.Plain.{sender_of}
-use Rattle.stamp_auth.specs.Request.{auth_sender_of}
-use Rattle.twamp_test.specs.Request.{test_sender_of}
-use Rattle.twamp_test.specs.Reply.{test_reply}
-use Rattle.reflect_core.specs.Base.{reply_base}
-use Rattle.reflect_core.specs.Reflection.{arrived, facts_of, plain_octets, auth_octets, reflection}
-use Rattle.reflect_core.proofs.Modes.{plain_is, auth_is, test_is, replied}
+use Rattle.std.proofs.Common.{◌≡◌, ◌++◌, ◌∙◌, List, ℕ, length, drop, ap, sym, arith}
+use Rattle.reflect_core.specs.declared.ends.Ends.{Ends}
+use Rattle.reflect_core.specs.Arrived.{arrived}
+use Rattle.reflect_core.specs.Ends.{usual_ends, ends_after}
+use Rattle.reflect_core.specs.Reflection.{plain_reflection, auth_reflection, test_reflection, reflection}
+use Rattle.refl_types.specs.declared.types.Mode.TheVariants.{Plain, Auth}
+use Rattle.reflect_core.proofs.Modes.{plain_is, auth_is, test_is, plain_ends, auth_ends, test_ends, replied}
 use Rattle.reflect_core.proofs.session.Session.reflect.Goals as goal
-use Rattle.reflect_core.proofs.session.Session.reflect.Goals.{in-Plain, in-Twamp, in-Auth}
 
-pub returns-clause-reply : goal.returns-clause-reply
-returns-clause-reply c =
+pub returns-in-Plain-clause-reply : goal.returns-in-Plain-clause-reply
+returns-in-Plain-clause-reply c =
     let k = c.args.self.now.key.now in
     let x = c.args.self.now.extra.now in
     let config = c.args.self.now.config.now in
     let draw = c.args.draw.now in
     let d = arrived c.args.datagram.now in
-    let facts = facts_of draw in
-    let input = d.octets in
-    let r = reflection k x config draw d in
-    let to = c.reply_of.ensures in
-    elim c.match-self.branch [
-      | in-Plain w ↦ replied r _ c.args.out.now c.match-self.out w.reflect_plain-len.new.out (plain_octets config facts (reply_base config draw d.meta (sender_of input)) input) (length input) to.from to.to w.out-is (to.len ∙ w.len-is ∙ w.reflect_plain-len.ensures.len) w.reflect_plain-len.ensures.octets (plain_is k.mode x config draw d w.in-Plain.is) (omega arith) (omega arith)
-      | in-Twamp w ↦ replied r _ c.args.out.now c.match-self.out w.reflect_test-len.new.out (test_reply x (reply_base config draw d.meta (test_sender_of input)) input) w.reflect_test-len.result to.from to.to w.out-is (to.len ∙ w.len-is) w.reflect_test-len.ensures.octets (test_is k.mode x config draw d w.in-Twamp.is) (omega arith) (omega arith)
-      | in-Auth w ↦ replied r _ c.args.out.now c.match-self.out w.reflect_auth-len.new.out (auth_octets config facts (reply_base config draw d.meta (auth_sender_of input)) input) (length input) to.from to.to w.out-is (to.len ∙ w.len-is ∙ w.reflect_auth-len.ensures.len) w.reflect_auth-len.ensures.octets (auth_is k.mode x config draw d w.in-Auth.is) (omega arith) (omega arith)
-    ]
+    let call = c.reflect_plain in
+    let ends = plain_ends k.mode config d c.in-Plain.is in
+    let old = c.args.out.now in
+    replied (reflection k x config draw d) (ends_after 44 Plain config d) call.result old call.new.out (plain_reflection config draw d) call.ensures.ends
+    (ap (λ (e : Ends). e.from) ends) (ap (λ (e : Ends). e.to) ends)
+    (call.ensures.octets ∙ ap (λ (n : ℕ). plain_reflection config draw d ++ drop n old) (sym call.ensures.len))
+    (plain_is k.mode x config draw d c.in-Plain.is) (omega arith) (omega arith)
+
+pub returns-in-Twamp-clause-reply : goal.returns-in-Twamp-clause-reply
+returns-in-Twamp-clause-reply c =
+    let k = c.args.self.now.key.now in
+    let x = c.args.self.now.extra.now in
+    let config = c.args.self.now.config.now in
+    let draw = c.args.draw.now in
+    let d = arrived c.args.datagram.now in
+    let call = c.reflect_test in
+    let ends = test_ends k.mode config d c.in-Twamp.is in
+    replied (reflection k x config draw d) (usual_ends d.meta) call.result c.args.out.now call.new.out (test_reflection x config draw d) call.ensures.ends
+    (ap (λ (e : Ends). e.from) ends) (ap (λ (e : Ends). e.to) ends)
+    call.ensures.octets
+    (test_is k.mode x config draw d c.in-Twamp.is) (omega arith) (omega arith)
+
+pub returns-in-Auth-clause-reply : goal.returns-in-Auth-clause-reply
+returns-in-Auth-clause-reply c =
+    let k = c.args.self.now.key.now in
+    let x = c.args.self.now.extra.now in
+    let config = c.args.self.now.config.now in
+    let draw = c.args.draw.now in
+    let d = arrived c.args.datagram.now in
+    let call = c.reflect_auth in
+    let ends = auth_ends k.mode config d c.in-Auth.is in
+    let old = c.args.out.now in
+    replied (reflection k x config draw d) (ends_after 112 Auth config d) call.result old call.new.out (auth_reflection config draw d) call.ensures.ends
+    (ap (λ (e : Ends). e.from) ends) (ap (λ (e : Ends). e.to) ends)
+    (call.ensures.octets ∙ ap (λ (n : ℕ). auth_reflection config draw d ++ drop n old) (sym call.ensures.len))
+    (auth_is k.mode x config draw d c.in-Auth.is) (omega arith) (omega arith)
