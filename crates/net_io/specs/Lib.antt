@@ -1,0 +1,3 @@
+pub mod Log
+pub mod Port
+pub mod Desk

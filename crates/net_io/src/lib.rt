@@ -1,0 +1,10 @@
+//! The network as the reflector sees it: a port for datagrams and a desk for connections, as traits and as scripts in memory.
+#![tactic(auto)]
+
+mod desk;
+mod log;
+mod port;
+
+pub use desk::{ConnKind, Desk, DeskEvent, PIECE_ROOM, Timed};
+pub use log::Log;
+pub use port::{DATAGRAM_ROOM, Got, Port};
