@@ -1,3 +1,4 @@
 pub mod Log
 pub mod Port
+pub mod ScriptPort
 pub mod Desk
