@@ -2,3 +2,4 @@ pub mod Log
 pub mod Port
 pub mod ScriptPort
 pub mod Desk
+pub mod ScriptDesk
