@@ -15,5 +15,6 @@ pub use disk_files::DiskFiles;
 pub use files::{FileFault, Files};
 pub use mem_files::MemFiles;
 pub use memory::{MemSink, MemSource};
-pub use outside::{Failed, Sink, Source, write_all};
+pub use outside::{Failed, Sink, Source, count_failure, write_all};
+pub use plan::FailurePlan;
 pub use standard::{Output, StdSink, StdSource};

@@ -1,0 +1,5 @@
+pub mod Log
+pub mod Port
+pub mod ScriptPort
+pub mod Desk
+pub mod ScriptDesk
