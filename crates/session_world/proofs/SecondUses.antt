@@ -1,4 +1,5 @@
 -- That the second use of a slot runs: each step is allowed by its actor's own list, and read what stood in its word.
+use Rattle.refl_types.specs.Configs.{are_known_tlvs}
 use Rattle.std.proofs.Common.{◌≡◌, inl, inr, ℕ, zero, suc, ◌+◌, ◌-◌, ◌*◌, ◌<◌, ◌≤◌, ◌^◌, ◌==◌, ◌||◌, ◌&&◌, not, Bool, true, false, refl, ap, sym, subst, arith, List, [], ◌∷◌, map, get_or, lit<, lit≤}
 use Rattle.slot_word.specs.Fields.{word_of, is_open_word, row_in, generation_in, sequence_in}
 use Rattle.refl_types.specs.Spelling.{FitsConfig, FitsSession}
@@ -33,6 +34,7 @@ no_bytes : IsBytes []
 no_bytes i = lit< tt
 
 fits_config : (m : ℕ) → 0 < m → m < 256 → FitsConfig (config_with m)
+unfolding are_known_tlvs
 fits_config m some small = record {
   is_config = record { multiplier = some; scale = lit≤ tt; tlvs = refl };
   offset = lit< tt;
