@@ -36,4 +36,5 @@ pub mod OneOrder
 pub mod LegalOrder
 pub mod OneThread
 pub mod WholeTurns
+pub mod SecondUses
 pub mod RowsRead

@@ -17,6 +17,7 @@ pub mod Visits
 pub mod Looks
 pub mod Refusals
 pub mod WholeRun
+pub mod SecondUse
 pub mod OneOrder
 pub mod OneThread
 pub mod Joined

@@ -12,6 +12,7 @@ ghost use Rattle.session_world.specs.Rows.{LoadsFixRows, RowsStay, WorkersReadRo
 ghost use Rattle.session_world.specs.Visits.{VisitsTell};
 ghost use Rattle.session_world.specs.Walks.{WalksGoRound};
 ghost use Rattle.session_world.specs.RowsRead.{AnswersName, RowsTell};
+ghost use Rattle.session_world.specs.SecondUse.{SecondUse};
 ghost use Rattle.session_world.specs.WholeRun.{WholeRun};
 
 /// Each schedule that runs has a history that explains it: one that is legal in the one-thread table, in which each
@@ -152,4 +153,10 @@ pub fn law_visits()
 /// begins with these openings, and has the desk's answers and those of each worker's list, with their rows' configurations.
 pub fn law_joined_history()
     ensures { JoinedHistory }
+{}
+
+/// A run in which a slot is used twice is one that runs: a walk that goes on past the last slot, loads of a row's words,
+/// an exchange of rows, a count, a closing, an expiry, a join, a scan and a second part of a worker's list.
+pub fn law_second_use()
+    ensures { SecondUse }
 {}

@@ -15,7 +15,8 @@ pub use laws::{
     law_answers_name, law_begins, law_calls_tell, law_desk_did, law_desk_rows, law_desk_slots,
     law_draws, law_explained, law_held, law_joined_history, law_looks, law_one_bound,
     law_one_match, law_one_order, law_rows_fixed, law_rows_read, law_rows_stay, law_rows_tell,
-    law_the_order, law_turns_tell, law_visits, law_walks, law_whole_run, law_whole_turn, law_words,
+    law_second_use, law_the_order, law_turns_tell, law_visits, law_walks, law_whole_run,
+    law_whole_turn, law_words,
 };
 pub use refusals::{
     law_expires_are_exact, law_looks_are_announced, law_no_false_miss, law_only_draws_change,
