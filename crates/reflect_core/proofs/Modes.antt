@@ -12,6 +12,8 @@ use Rattle.stamp_packet.specs.declared.fields.SenderBase.{SenderBase}
 use Rattle.stamp_packet.specs.declared.fields.ReplyBase.{ReplyBase}
 use Rattle.stamp_packet.specs.declared.fields.Short.{Short}
 use Rattle.stamp_packet.specs.Plain.{read_of, sender_of}
+use Rattle.twamp_test.specs.Request.{test_sender_of}
+use Rattle.twamp_test.specs.Request as tests
 use Rattle.reflect_core.specs.declared.session.Draw.{Draw}
 use Rattle.reflect_core.specs.declared.reflecting.Reply.{Reply}
 use Rattle.reflect_core.specs.Base.{reply_base}
@@ -28,6 +30,9 @@ ok_of false x y s n e = let f : ◌≡◌ {A = Result SenderBase Short} (Ok y) (
 
 not_less : (a b : ℕ) → b ≤ a → ltb a b ≡ false
 not_less a b le = grind (arith, nat_tests)
+
+pub test_read_ok : (octets : List ℕ) (s : SenderBase) → 14 ≤ length octets → tests.read_of octets ≡ Ok s → s ≡ test_sender_of octets
+test_read_ok octets s le e = ok_of (ltb (length octets) 14) (record {}) (test_sender_of octets) s (not_less (length octets) 14 le) e
 
 pub read_ok : (octets : List ℕ) (s : SenderBase) → 44 ≤ length octets → read_of octets ≡ Ok s → s ≡ sender_of octets
 read_ok octets s le e = ok_of (ltb (length octets) 44) (record {}) (sender_of octets) s (not_less (length octets) 44 le) e

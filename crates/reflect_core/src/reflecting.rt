@@ -17,7 +17,7 @@ use keyed_config::KeyedConfig;
 use refl_types::{Config, Endpoint, Extra, Key, LocalAddr, Meta, Mode};
 use stamp_auth::{auth_sender, write_auth_keyed};
 use stamp_packet::{read_plain, write_plain_to};
-use twamp_test::{read_test, write_test};
+use twamp_test::{read_test, write_test_to};
 
 /// Octets of an unauthenticated base packet (RFC 8762, section 4.2.1).
 const PLAIN_LEN: usize = 44;
@@ -136,7 +136,7 @@ fn reflect_test(
 {
     let sender = read_test(datagram.octets).unwrap();
     let base = reply_base(config.as_parts(), draw, datagram.meta, &sender);
-    let len = write_test(extra, &base, datagram.octets, out);
+    let len = write_test_to(extra, &base, datagram.octets, out);
     reply_of(&usual_ends(datagram.meta), len)
 }
 

@@ -1,5 +1,6 @@
 -- A datagram at its places is the spelling of its record, and the spelling of a record stands at these places.
-use Rattle.std.proofs.Common.{◌≡◌, ℕ, suc, ◌+◌, ◌^◌, ◌<◌, ◌≤◌, Option, Some, None, List, [], ◌∷◌, ◌++◌, length, take, drop, get_or, replicate, refl, sym, ap, subst, ◌∙◌, append_assoc, arith, drop-cons}
+use Rattle.std.proofs.lemmas.Bool.{eqb-true}
+use Rattle.std.proofs.Common.{◌≡◌, true, ℕ, suc, ◌+◌, ◌^◌, ◌<◌, ◌≤◌, Option, Some, None, List, [], ◌∷◌, ◌++◌, length, take, drop, get_or, replicate, refl, sym, ap, subst, ◌∙◌, append_assoc, arith, drop-cons}
 use Rattle.std.proofs.Math.Seq.{take-add}
 use Rattle.std.proofs.lemmas.List.{drop-drop, take_at, drop_at, length-append}
 use Rattle.std.proofs.lemmas.Nat.{be_bytes_8, from_be_bytes-to_be_bytes_2, from_be_bytes-to_be_bytes_4, from_be_bytes-to_be_bytes_8}
@@ -13,7 +14,9 @@ use Rattle.refl_types.specs.declared.types.Meta.{Meta}
 use Rattle.refl_types.specs.Spelling.{family, address_octets, FitsEndpoint}
 use Rattle.replay_format.specs.Records.{Arrives, Datagram, datagram_of, datagram_octets, ttl_octets, spelling, FitsTtl, FitsDatagram}
 use Rattle.replay_format.specs.View.{IsFront}
-use Rattle.replay_format.specs.Whole.{HasAddress, HasHead}
+use Rattle.replay_format.specs.declared.whole.Family.{Family}
+use Rattle.replay_format.specs.declared.whole.Family.TheVariants.{Any, Ipv4, Ipv6}
+use Rattle.replay_format.specs.Whole.{HasAddress, HasHead, is_asked, IsAsked}
 use Rattle.replay_format.proofs.Formats.{address_octets_length, datagram_length}
 
 pub field_64 : (at : ℕ) (octets : List ℕ) → IsBytes octets → at + 8 ≤ length octets → to_be_bytes w64 (from_be_bytes w64 (field at 8 octets)) ≡ field at 8 octets
@@ -72,6 +75,16 @@ no_family octets (V4 x) le h four six = four (family_here octets (V4 x) le h)
 no_family octets (V6 x) le h four six = six (family_here octets (V6 x) le h)
 
 -- an IPv4 address has zeros behind it
+pub asked_code : (f : Family) (a : Address) → IsAsked f a → is_asked f (family a) ≡ true
+asked_code Any a h = refl
+asked_code Ipv4 a h = rw h refl
+asked_code Ipv6 a h = rw h refl
+
+pub code_asked : (f : Family) (a : Address) → is_asked f (family a) ≡ true → IsAsked f a
+code_asked Any a e = tt
+code_asked Ipv4 a e = eqb-true (family a) 4 e
+code_asked Ipv6 a e = eqb-true (family a) 6 e
+
 pub zeros_behind : (octets : List ℕ) (a : Address) → 44 ≤ length octets → HasAddress octets a → get_or octets 7 0 ≡ 4 → field 12 12 octets ≡ replicate 12 0
 zeros_behind octets (V6 x) le h four = absurd (let e : 4 ≡ 6 = sym four ∙ family_here octets (V6 x) le h in cc)
 zeros_behind octets (V4 x) le h four =

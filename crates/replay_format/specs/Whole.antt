@@ -1,5 +1,5 @@
 -- A datagram at its places in a record.
-use Rattle.std.specs.Prelude.{◌≡◌, ℕ, List, ◌∷◌}
+use Rattle.std.specs.Prelude.{◌≡◌, ℕ, ◌==◌, Bool, true, List, ◌∷◌}
 use Rattle.std.specs.Int.{w16, w64, from_be_bytes}
 use Rattle.octet_format.specs.Octets.{field}
 use Rattle.refl_types.specs.declared.types.Address.{Address}
@@ -13,6 +13,12 @@ use Rattle.replay_format.specs.Records.{ttl_octets}
 pub record HasAddress (octets : List ℕ) (a : Address) : Type 0 where
   pub spelled : field 7 17 octets ≡ family a ∷ address_octets a
   pub fits : FitsAddress a
+
+-- whether a number is that of the family that is asked for
+abbrev pub is_asked : Family → ℕ → Bool
+is_asked Any code = true
+is_asked Ipv4 code = code == 4
+is_asked Ipv6 code = code == 6
 
 -- the address is of the family that is asked for
 abbrev pub IsAsked : Family → Address → Type 0

@@ -4,7 +4,7 @@ ghost use Rattle.std.specs.Prelude.{ℕ, ◌≡◌, ◌≤◌, ◌↔◌, ◌∷
 ghost use Rattle.octet_format.specs.Octets.{field};
 ghost use Rattle.refl_types.specs.declared.types.Address as addresses;
 ghost use Rattle.refl_types.specs.declared.types.Meta as metas;
-ghost use Rattle.replay_format.specs.Whole.{HasAddress, HasHead, IsAsked};
+ghost use Rattle.replay_format.specs.Whole.{HasAddress, HasHead, is_asked, IsAsked};
 ghost use Rattle.refl_types.specs.Spelling.{family};
 ghost use Rattle.replay_format.specs.Records.{Datagram, Arrives, datagram_of, ttl_octets};
 ghost use Rattle.replay_format.specs.View.{IsFront};
@@ -49,43 +49,33 @@ fn has_zeros(octets: &[u8]) -> bool
     last == 0
 }
 
-/// The address in the octets 7 to 23, if it is of the family that is asked for.
+/// The address in the octets 7 to 23.
 #[inline(always)]
-fn address_of(octets: &[u8], asked: Family) -> Option<Address>
+fn address_of(octets: &[u8]) -> Option<Address>
     requires { 44 ≤ length octets.now }
     ensures some { IfSome result (HasAddress octets.now) }
-    ensures asked { IfSome result (IsAsked asked) }
-    ensures none { result ≡ None → (a : addresses.Address) → HasAddress octets.now a → IsAsked asked a → ⊥ }
+    ensures none { result ≡ None → (a : addresses.Address) → HasAddress octets.now a → ⊥ }
 {
     match octets[7] {
         4 => {
-            if let Family::Ipv6 = asked {
-                return None;
-            }
             if !has_zeros(octets) {
                 return None;
             }
             Some(Address::V4(field4(octets, 8)))
         }
-        6 => {
-            if let Family::Ipv4 = asked {
-                return None;
-            }
-            Some(Address::V6(field16(octets, 8)))
-        }
+        6 => Some(Address::V6(field16(octets, 8))),
         _ => None,
     }
 }
 
 /// What is told of the datagram, where 44 octets and those that it has stand at the front.
 #[inline(always)]
-fn meta_of(octets: &[u8], asked: Family, len: usize) -> Option<Meta>
+fn meta_of(octets: &[u8], len: usize) -> Option<Meta>
     requires { 44 ≤ length octets.now }
     ensures some { IfSome result (λ m. HasHead octets.now m len) }
-    ensures asked { IfSome result (λ m. IsAsked asked m.peer.address) }
-    ensures none { result ≡ None → (m : metas.Meta) → HasHead octets.now m len → IsAsked asked m.peer.address → ⊥ }
+    ensures none { result ≡ None → (m : metas.Meta) → HasHead octets.now m len → ⊥ }
 {
-    let address = address_of(octets, asked)?;
+    let address = address_of(octets)?;
     let ttl = ttl_of(octets[26], octets[27])?;
     Some(Meta {
         local: u16::from_be_bytes(field2(octets, 5)),
@@ -99,6 +89,18 @@ fn meta_of(octets: &[u8], asked: Family, len: usize) -> Option<Meta>
     })
 }
 
+/// Whether the number of a family is that of the family that is asked for.
+#[inline(always)]
+fn is_asked(asked: Family, code: u8) -> bool
+    ensures { result ≡ is_asked asked code }
+{
+    match asked {
+        Family::Any => true,
+        Family::Ipv4 => code == 4,
+        Family::Ipv6 => code == 6,
+    }
+}
+
 #[inline(always)]
 fn datagram_from(octets: &[u8], asked: Family) -> Option<(Meta, u64, &[u8], usize)>
     ensures front { IfSome result (λ x. IsFront octets.now (Arrives (datagram_of x.0 x.1 x.2.now)) x.3) }
@@ -109,12 +111,16 @@ fn datagram_from(octets: &[u8], asked: Family) -> Option<(Meta, u64, &[u8], usiz
     if octets.len() < HEAD || octets[0] != DATAGRAM_TAG {
         return None;
     }
+    // Where another family is asked for, this is found before all else is read.
+    if !is_asked(asked, octets[7]) {
+        return None;
+    }
     let body = u32::from_be_bytes(field4(octets, 1)) as usize;
     if body < DATAGRAM_FIELDS || body > DATAGRAM_BODY_LIMIT || octets.len() - 5 < body {
         return None;
     }
     let len = body - DATAGRAM_FIELDS;
-    let meta = meta_of(octets, asked, len)?;
+    let meta = meta_of(octets, len)?;
     let t3 = u64::from_be_bytes(field8(octets, 36));
     Some((meta, t3, &octets[HEAD..HEAD + len], HEAD + len))
 }

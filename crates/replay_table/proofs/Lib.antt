@@ -3,3 +3,4 @@ pub mod AnswerFacts
 pub mod PlaceFacts
 pub mod ReplyFacts
 pub mod EndFacts
+pub mod ApartFacts

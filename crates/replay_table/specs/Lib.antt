@@ -2,3 +2,4 @@ pub mod Table
 pub mod Reflection
 pub mod Outcomes
 pub mod Stands
+pub mod Apart

@@ -1,3 +1,4 @@
 pub mod MatchLaws
 pub mod WordLaws
 pub mod PlaceLaws
+pub mod AddressFacts

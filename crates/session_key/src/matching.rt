@@ -4,6 +4,7 @@ ghost use Rattle.std.specs.Prelude.{◌≡◌, ◌<◌, ◌^◌};
 ghost use Rattle.refl_types.specs.Same.{same_octets, same_address, same_endpoint};
 ghost use Rattle.session_key.specs.Matching.{ssid_at, query_of, agrees, matches};
 
+use octet_format::field8;
 use refl_types::{Address, Endpoint, Key, Meta, Mode};
 
 /// What of a datagram is compared with keys.
@@ -33,12 +34,22 @@ fn ssid_at(at: usize, octets: &[u8]) -> Option<u16>
     Some(u16::from_be_bytes([ssid[0], ssid[1]]))
 }
 
-/// Whether the octets of two IPv6 addresses are the same.
+/// Whether two IPv4 addresses are the same. As one number each they are compared at once.
 #[inline(always)]
-fn same_octets(a: &[u8; 16], b: &[u8; 16]) -> bool
+fn same_ipv4(a: &[u8; 4], b: &[u8; 4]) -> bool
     ensures { result ≡ same_octets a.now b.now }
 {
-    a == b
+    u32::from_be_bytes(*a) == u32::from_be_bytes(*b)
+}
+
+/// Whether two IPv6 addresses are the same. As two numbers each they are compared at once.
+#[inline(always)]
+fn same_ipv6(a: &[u8; 16], b: &[u8; 16]) -> bool
+    ensures { result ≡ same_octets a.now b.now }
+{
+    let front = u64::from_be_bytes(field8(a, 0)) == u64::from_be_bytes(field8(b, 0));
+    let back = u64::from_be_bytes(field8(a, 8)) == u64::from_be_bytes(field8(b, 8));
+    front && back
 }
 
 /// Whether two addresses are the same.
@@ -47,8 +58,8 @@ fn same_address(a: &Address, b: &Address) -> bool
     ensures { result ≡ same_address a.now b.now }
 {
     match (a, b) {
-        (Address::V4(x), Address::V4(y)) => x == y,
-        (Address::V6(x), Address::V6(y)) => same_octets(x, y),
+        (Address::V4(x), Address::V4(y)) => same_ipv4(x, y),
+        (Address::V6(x), Address::V6(y)) => same_ipv6(x, y),
         _ => false,
     }
 }

@@ -26,7 +26,11 @@ reflected_len x len = min (min x.reflect (len - padding_at x)) 65466
 abbrev pub reply_len : Extra → ℕ → ℕ
 reply_len x len = max (41 + reflected_len x len) len
 
-abbrev pub test_reply : Extra → ReplyBase → List ℕ → List ℕ
-test_reply x r input =
-    test_fields r ++ take (reflected_len x (length input)) (drop (padding_at x) input)
+-- the octets that are reflected, then zeros
+abbrev pub reply_padding : Extra → List ℕ → List ℕ
+reply_padding x input =
+    take (reflected_len x (length input)) (drop (padding_at x) input)
     ++ replicate (reply_len x (length input) - (41 + reflected_len x (length input))) 0
+
+abbrev pub test_reply : Extra → ReplyBase → List ℕ → List ℕ
+test_reply x r input = test_fields r ++ reply_padding x input

@@ -6,4 +6,4 @@ mod reading;
 mod writing;
 
 pub use reading::read_test;
-pub use writing::write_test;
+pub use writing::{write_test, write_test_to};

@@ -1,9 +1,11 @@
 //! The packet of a session reflector (RFC 5357, section 4.2.1; RFC 6038, sections 4 and 5).
 
 ghost use Rattle.std.specs.Prelude.{◌≡◌, ◌≤◌, ◌-◌, ◌++◌, length, take, drop, replicate};
-ghost use Rattle.twamp_test.specs.Reply.{padding_at, reflected_len, reply_len, test_fields, test_reply};
+ghost use Rattle.std.specs.Int.{w32, to_be_bytes};
+ghost use Rattle.twamp_test.specs.Request.{test_sender_of};
+ghost use Rattle.twamp_test.specs.Reply.{padding_at, reflected_len, reply_len, reply_padding, test_fields, test_reply};
 
-use octet_format::{put, put_array};
+use octet_format::{field2, field4, field8, put, put_array};
 use refl_types::Extra;
 use stamp_packet::ReplyBase;
 
@@ -16,9 +18,19 @@ const TEST_LEN: usize = 14;
 /// The greatest number of octets that are reflected: a reply has at most 65,507.
 const MAX_REFLECTED: usize = 65_466;
 
+/// Writes the fields before the padding. The sender's number, timestamp and error estimate are given as octets.
 #[inline(always)]
-fn write_fields(reply: &ReplyBase, out: &mut [u8])
-    requires { 41 ≤ length out.old }
+fn write_fields(
+    reply: &ReplyBase,
+    sequence: [u8; 4],
+    timestamp: [u8; 8],
+    error: [u8; 2],
+    out: &mut [u8],
+)
+    requires sequence { sequence ≡ to_be_bytes w32 reply.now.sender.sequence }
+    requires timestamp { timestamp ≡ reply.now.sender.timestamp }
+    requires error { error ≡ reply.now.sender.error }
+    requires room { 41 ≤ length out.old }
     ensures { out.new ≡ test_fields reply.now ++ drop 41 out.old }
 {
     put_array(out, 0, reply.sequence.to_be_bytes());
@@ -26,9 +38,9 @@ fn write_fields(reply: &ReplyBase, out: &mut [u8])
     put_array(out, 12, reply.error);
     put_array(out, 14, [0, 0]);
     put_array(out, 16, reply.received);
-    put_array(out, 24, reply.sender.sequence.to_be_bytes());
-    put(out, 28, &reply.sender.timestamp);
-    put(out, 36, &reply.sender.error);
+    put_array(out, 24, sequence);
+    put_array(out, 28, timestamp);
+    put_array(out, 36, error);
     put_array(out, 38, [0, 0, reply.ttl]);
 }
 
@@ -73,8 +85,24 @@ fn clear(out: &mut [u8], from: usize, to: usize)
     out[from..to].fill(0);
 }
 
-/// Writes the reply to a request and answers its length, which is at least the request's. Later octets stay.
+/// Writes the padding of the reply to a request behind its fields, and answers the reply's length. Later octets stay.
 #[inline(always)]
+fn write_padding(extra: &Extra, input: &[u8], out: &mut [u8]) -> usize
+    requires limit { length input.now ≤ 65507 }
+    requires room { 65536 ≤ length out.old }
+    ensures len { result ≡ reply_len extra.now (length input.now) }
+    ensures octets { out.new ≡ take 41 out.old ++ reply_padding extra.now input.now ++ drop result out.old }
+    ensures limit { result ≤ 65507 }
+{
+    let padding = reflected(extra, input);
+    put(out, FIELDS_LEN, padding);
+    let end = FIELDS_LEN + padding.len();
+    let len = end.max(input.len());
+    clear(out, end, len);
+    len
+}
+
+/// Writes the reply to a request and answers its length, which is at least the request's. Later octets stay.
 pub fn write_test(extra: &Extra, reply: &ReplyBase, input: &[u8], out: &mut [u8]) -> usize
     requires read { 14 ≤ length input.now }
     requires limit { length input.now ≤ 65507 }
@@ -83,13 +111,26 @@ pub fn write_test(extra: &Extra, reply: &ReplyBase, input: &[u8], out: &mut [u8]
     ensures octets { out.new ≡ test_reply extra.now reply.now input.now ++ drop result out.old }
     ensures limit { result ≤ 65507 }
 {
-    write_fields(reply, out);
-    let padding = reflected(extra, input);
-    put(out, FIELDS_LEN, padding);
-    let end = FIELDS_LEN + padding.len();
-    let len = end.max(input.len());
-    clear(out, end, len);
-    len
+    let sender = &reply.sender;
+    let sequence = sender.sequence.to_be_bytes();
+    write_fields(reply, sequence, sender.timestamp, sender.error, out);
+    write_padding(extra, input, out)
+}
+
+/// Writes the reply to a request as `write_test` does. The sender's fields are copied from the octets in which they stand.
+#[inline(always)]
+pub fn write_test_to(extra: &Extra, reply: &ReplyBase, input: &[u8], out: &mut [u8]) -> usize
+    requires read { 14 ≤ length input.now }
+    requires sender { reply.now.sender ≡ test_sender_of input.now }
+    requires limit { length input.now ≤ 65507 }
+    requires room { 65536 ≤ length out.old }
+    ensures len { result ≡ reply_len extra.now (length input.now) }
+    ensures octets { out.new ≡ test_reply extra.now reply.now input.now ++ drop result out.old }
+    ensures limit { result ≤ 65507 }
+{
+    let sequence = field4(input, 0);
+    write_fields(reply, sequence, field8(input, 4), field2(input, 12), out);
+    write_padding(extra, input, out)
 }
 
 #[cfg(test)]

@@ -1,9 +1,9 @@
-use Rattle.std.proofs.Common.{◌≡◌, ℕ, ◌+◌, ◌-◌, length, take, drop, refl, sym, ap, subst, ◌∙◌, arith}
+use Rattle.std.proofs.Common.{◌≡◌, true, false, ℕ, ◌+◌, ◌-◌, length, take, drop, refl, sym, ap, subst, ◌∙◌, arith}
 use Rattle.std.specs.Int.{w32, w64, from_be_bytes}
 use Rattle.replay_format.specs.Records.{Arrives, datagram_of}
 use Rattle.replay_format.specs.View.{IsFront}
-use Rattle.replay_format.specs.Whole.{HasHead}
-use Rattle.replay_format.proofs.WholeFacts.{whole_front, parts_of, told}
+use Rattle.replay_format.specs.Whole.{HasHead, is_asked}
+use Rattle.replay_format.proofs.WholeFacts.{whole_front, parts_of, told, family_here, asked_code, code_asked}
 use Rattle.replay_format.proofs.whole.datagram_from.Goals as goal
 
 pub returns-clause-front : goal.returns-clause-front
@@ -21,10 +21,24 @@ returns-clause-front c =
     let same : 44 + k - 44 ≡ k = omega arith in
     subst (λ (n : ℕ). IsFront octets (Arrives (datagram_of m t3 (take n (drop 44 octets)))) (44 + k)) (sym same) whole
 
+pub returns-then-not-is_asked-clause-none : goal.returns-then-not-is_asked-clause-none
+returns-then-not-is_asked-clause-none c = λ _ d n f asked.
+    let octets = c.args.octets.now in
+    let a = d.peer.address in
+    let p = parts_of octets d n f in
+    let e : false ≡ true = sym c.if-not-is_asked.true ∙ c.is_asked.ensures ∙ ap (is_asked c.args.asked) (family_here octets a (omega arith) p.head.address) ∙ asked_code c.args.asked a asked in
+    cc
+
+pub returns-clause-asked : goal.returns-clause-asked
+returns-clause-asked c =
+    let octets = c.args.octets.now in
+    let a = c.in_ok-meta.meta.peer.address in
+    code_asked c.args.asked a (ap (is_asked c.args.asked) (sym (family_here octets a (omega arith) c.in_ok-meta.ensures.some.address)) ∙ sym c.is_asked.ensures ∙ c.if-not-is_asked.false)
+
 pub returns-in_err-meta-clause-none : goal.returns-in_err-meta-clause-none
-returns-in_err-meta-clause-none c = λ _ d n f asked.
+returns-in_err-meta-clause-none c = λ _ d n f _.
     let octets = c.args.octets.now in
     let p = parts_of octets d n f in
     let body : c.from_be_bytes-body.result ≡ 39 + length d.octets = c.from_be_bytes-body.ensures ∙ ap (from_be_bytes w32) c.field4.ensures ∙ p.body in
     let size : length d.octets ≡ c.from_be_bytes-body.result - 39 = omega (arith, body) in
-    c.in_err-meta.ensures.none refl (told d) (subst (λ (k : ℕ). HasHead octets (told d) k) size p.head) asked
+    c.in_err-meta.ensures.none refl (told d) (subst (λ (k : ℕ). HasHead octets (told d) k) size p.head)
