@@ -1,6 +1,6 @@
 -- A log whose octets stand in a row.
-use Rattle.std.proofs.Common.{◌≡◌, ℕ, ◌+◌, ◌-◌, ◌<◌, ◌≤◌, ◌⊎◌, inl, inr, List, [], ◌∷◌, ◌++◌, length, take, drop, Option, Some, None, Bool, true, false, refl, sym, ap, subst, ◌∙◌, arith}
-use Rattle.std.specs.Prelude.{sum_by, map, option_map, cond, min, nat_lt, nat_le, ◌&&◌, if◌then◌else◌}
+use Rattle.std.proofs.Common.{◌≡◌, ℕ, zero, suc, ◌+◌, ◌-◌, ◌<◌, ◌≤◌, ◌⊎◌, inl, inr, List, [], ◌∷◌, ◌++◌, length, take, drop, get_or, Option, Some, None, Bool, true, false, refl, sym, ap, subst, ◌∙◌, arith}
+use Rattle.std.specs.Prelude.{sum_by, map, option_map, slice_get, cond, min, nat_lt, nat_le, ◌&&◌, if◌then◌else◌}
 use Rattle.std.proofs.lemmas.List.{length-take-le, length-drop, take-append-le, drop-append-le, nil_from_length, drop-drop, map-append}
 use Rattle.std.proofs.Math.ListN.{drop_of_length-le}
 use Rattle.std.proofs.Math.Nat.{eq-or-lt_of_le}
@@ -57,6 +57,18 @@ module _ {E : Type 0} where
     -- there is none
     pub told_full : (length entries ≡ n) ⊎ (m - length octets < length more) → None ≡ told_after n m (Some (entries_of entries octets)) (entry, more)
     told_full full = sym (after_full n m (entries_of entries octets) (entry, more) (grind (arith, length-entries_of entries octets, octets_in-entries_of entries octets whole)))
+
+-- the entry at a place
+pub slice_get-entries_of : {E : Type 0} (entries : List (E × ℕ)) (octets : List ℕ) (at : ℕ) (d : E × ℕ) → at < length entries
+    → slice_get (entries_of entries octets) at ≡ Some ((get_or entries at d).0, take (get_or entries at d).1 (drop (sum_by count_of (take at entries)) octets))
+slice_get-entries_of [] octets at d within = absurd (omega arith)
+slice_get-entries_of (x ∷ entries) octets zero d within = refl
+slice_get-entries_of {E} (x ∷ entries) octets (suc at) d within =
+    let e = get_or entries at d in
+    let sum = sum_by count_of (take at entries) in
+    let back : drop sum (drop x.1 octets) ≡ drop (sum_by count_of (x ∷ take at entries)) octets =
+    drop-drop sum x.1 octets ∙ ap (λ (n : ℕ). drop n octets) (sym (sum_by-cons count_of x (take at entries))) in
+    slice_get-entries_of entries (drop x.1 octets) at d (omega arith) ∙ ap (λ (l : List ℕ). Some (e.0, take e.1 l)) back
 
 -- ---- what a log tells, and what is still to come
 

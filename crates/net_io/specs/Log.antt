@@ -1,5 +1,5 @@
 -- Logs: what an object of the outside tells of all that it did.
-use Rattle.std.specs.Prelude.{◌≡◌, ℕ, ◌+◌, ◌&&◌, nat_lt, nat_le, List, [], ◌∷◌, ◌++◌, length, take, drop, Option, Some, None, if◌then◌else◌, ⊤}
+use Rattle.std.specs.Prelude.{◌≡◌, ℕ, ◌+◌, ◌&&◌, nat_lt, nat_le, List, [], ◌∷◌, ◌++◌, length, take, drop, Option, Some, None, option_and_then, slice_get, if◌then◌else◌, ⊤}
 
 -- A log grew by these entries. Of one that isn't told after the call nothing is said; one that wasn't told before isn't told after
 abbrev pub Grows : {E : Type 0} → Option (List E) → Option (List E) → List E → Type 0
@@ -41,6 +41,10 @@ told_after entries octets (Some log) entry =
 -- a log after one entry more
 abbrev pub noted : {E : Type 0} → LogState E → E → List ℕ → LogState E
 noted s entry octets = record s { told = told_after s.entries s.octets s.told (entry, octets) }
+
+-- the entry at a place of a log, where it is told and has one there
+abbrev pub entry_at : {E : Type 0} → LogState E → ℕ → Option (E × List ℕ)
+entry_at s at = option_and_then (λ log. slice_get log at) s.told
 
 -- entries, each with its count of octets, and all octets in a row
 abbrev pub entries_of : {E : Type 0} → List (E × ℕ) → List ℕ → List (E × List ℕ)

@@ -1,7 +1,7 @@
 //! A log in memory, with a fixed room.
 
-ghost use Rattle.std.specs.Prelude.{◌≡◌, ◌+◌, ◌≤◌, ◌<◌, ◌++◌, ◌∷◌, Some, [], IfOk, length, vec_len, vec_capacity};
-ghost use Rattle.net_io.specs.Log.{noted};
+ghost use Rattle.std.specs.Prelude.{◌≡◌, ◌+◌, ◌≤◌, ◌<◌, ◌++◌, ◌∷◌, Some, None, [], IfOk, MatchOption, length, take, drop, sum_by, slice_get, vec_len, vec_capacity};
+ghost use Rattle.net_io.specs.Log.{noted, entry_at, entries_of};
 
 use refl_types::Memory;
 use std::alloc::Global;
@@ -49,6 +49,16 @@ impl<E: Copy> Log<E> {
         })
     }
 
+    /// The entry at a place, with its octets, where the log is told and has one there.
+    pub fn get(&self, at: usize) -> Option<(E, &[u8])>
+        ensures { MatchOption result (entry_at self.now at ≡ None) (λ r. entry_at self.now at ≡ Some (r.0, r.1.now)) }
+    {
+        if !self.is_told || at >= self.entries.len() {
+            return None;
+        }
+        Some(entry_of(&self.entries, &self.octets, at))
+    }
+
     /// Adds an entry, where there is room for it.
     pub fn note(&mut self, entry: E, octets: &[u8])
         ensures { self.new ≡ noted self.old entry octets.now }
@@ -65,6 +75,38 @@ impl<E: Copy> Log<E> {
         extend_within(&mut self.octets, octets);
         push_within(&mut self.entries, (entry, octets.len()));
     }
+}
+
+/// The entry at a place, with its octets.
+fn entry_of<'a, E: Copy>(entries: &[(E, usize)], octets: &'a [u8], at: usize) -> (E, &'a [u8])
+    requires within { at < length entries.now }
+    requires whole { sum_by (λ e. e.1) entries.now ≡ length octets.now }
+    ensures { slice_get (entries_of entries.now octets.now) at ≡ Some (result.0, result.1.now) }
+{
+    let from = octets_before(entries, at, octets.len());
+    let entry = entries[at];
+    (entry.0, part_of(octets, from, entry.1))
+}
+
+/// So many octets from a place on.
+fn part_of(octets: &[u8], from: usize, len: usize) -> &[u8]
+    requires { from + len ≤ length octets.now }
+    ensures { result.now ≡ take len (drop from octets.now) }
+{
+    &octets[from..from + len]
+}
+
+/// How many octets stand before an entry.
+fn octets_before<E>(entries: &[(E, usize)], at: usize, limit: usize) -> usize
+    requires within { at ≤ length entries.now }
+    requires fits { sum_by (λ e. e.1) entries.now ≤ limit }
+    ensures { result ≡ sum_by (λ e. e.1) (take at entries.now) }
+{
+    let mut from = 0;
+    for entry in &entries[..at] {
+        from += entry.1;
+    }
+    from
 }
 
 /// Adds items for which there is room.

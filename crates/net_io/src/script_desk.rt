@@ -78,7 +78,8 @@ impl Model for ScriptDesk {
 }
 
 impl ScriptDesk {
-    ghost use Rattle.std.specs.Prelude.{◌≡◌, [], map, All, Some, false, IfOk};
+    ghost use Rattle.std.specs.Prelude.{◌≡◌, [], map, All, Some, None, false, MatchOption, IfOk};
+    ghost use Rattle.net_io.specs.Log.{entry_at};
     ghost use Rattle.net_io.specs.ScriptDesk.{ScriptDeskState, item_entry, IsWhole};
 
     /// A desk that gives these items. The numbers of the calls that fail are given method by method, counted from 1. The log
@@ -116,6 +117,13 @@ impl ScriptDesk {
             sends: FailurePlan::make(fail_send),
             faults: 0,
         })
+    }
+
+    /// The entry of the log at a place, with its octets, where the log is told and has one there.
+    pub fn entry(&self, at: usize) -> Option<(DeskDeed, &[u8])>
+        ensures { MatchOption result (entry_at self.now.log at ≡ None) (λ r. entry_at self.now.log at ≡ Some (r.0, r.1.now)) }
+    {
+        self.log.get(at)
     }
 }
 

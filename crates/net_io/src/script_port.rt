@@ -81,7 +81,8 @@ impl Model for ScriptPort {
 }
 
 impl ScriptPort {
-    ghost use Rattle.std.specs.Prelude.{◌≡◌, [], map, All, Some, IfOk};
+    ghost use Rattle.std.specs.Prelude.{◌≡◌, [], map, All, Some, None, MatchOption, IfOk};
+    ghost use Rattle.net_io.specs.Log.{entry_at};
     ghost use Rattle.net_io.specs.ScriptPort.{ScriptPortState, item_entry, IsWhole};
 
     /// A port that gives these items, and at each reading of its clock the next of these moments. The numbers of the calls
@@ -130,6 +131,13 @@ impl ScriptPort {
             sends: FailurePlan::make(fail_send),
             faults: 0,
         })
+    }
+
+    /// The entry of the log at a place, with its octets, where the log is told and has one there.
+    pub fn entry(&self, at: usize) -> Option<(PortDeed, &[u8])>
+        ensures { MatchOption result (entry_at self.now.log at ≡ None) (λ r. entry_at self.now.log at ≡ Some (r.0, r.1.now)) }
+    {
+        self.log.get(at)
     }
 }
 

@@ -19,7 +19,7 @@ returns-clause-coming c =
     let end = gave (end_at c.self.inside.last) [] in
     let place : c.min-self-inside.result ≡ min (length items) (at + 1) = omega arith in
     let rest : map item_entry (drop c.min-self-inside.result items) ≡ drop 1 (map item_entry (drop at items)) =
-        ap (λ (n : ℕ). map item_entry (drop n items)) place ∙ map-drop_next item_entry items at (omega arith) in
+    ap (λ (n : ℕ). map item_entry (drop n items)) place ∙ map-drop_next item_entry items at (omega arith) in
     let first = c.item_at-len.ensures.item ∙ ap (λ (l : List DeskItem). first_or end (map item_entry (drop at l))) c.deref.ensures.value in
     rw (← c.self.view_is) (takes_first IsEnd end (map item_entry (drop at items)) _ _ (c.self.inside.last, refl) first rest)
 
@@ -36,5 +36,5 @@ returns-clause-after c =
     let at = c.self.inside.at in
     let place : c.min-self-inside.result ≡ min (length items) (at + 1) = omega arith in
     let rest : map item_entry (drop c.min-self-inside.result items) ≡ drop 1 (map item_entry (drop at items)) =
-        ap (λ (n : ℕ). map item_entry (drop n items)) place ∙ map-drop_next item_entry items at (omega arith) in
+    ap (λ (n : ℕ). map item_entry (drop n items)) place ∙ map-drop_next item_entry items at (omega arith) in
     rw (← c.self.view_is, rest, c.note-2.ensures, c.item_at-len.ensures.len, c.next_fails.ensures.after) refl
