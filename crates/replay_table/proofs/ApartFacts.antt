@@ -78,8 +78,8 @@ unfolding after
 one t (Opens o) apart =
     elim (eqb_tells (opening_code t o) 0) [
       | inl y ↦
-        let free = code_zero (is_bound o.key t) (has_clash o.key t) (length t) o y.1 in
-        rw y.0 (apart-push t (opened_entry o) apart (none_excludes o.key t free.0 free.1))
+          let free = code_zero (is_bound o.key t) (has_clash o.key t) (length t) o y.1 in
+          rw y.0 (apart-push t (opened_entry o) apart (none_excludes o.key t free.0 free.1))
       | inr n ↦ rw n.0 apart
     ]
 one t (Arrives d) apart = arrived (session_of t d) t d apart
