@@ -1,11 +1,14 @@
--- Which addresses, endpoints and keys are equal, as tests.
-use Rattle.std.specs.Prelude.{◌≡◌, ℕ, Bool, true, false, ◌&&◌, ◌==◌, List, [], ◌∷◌}
+-- Which addresses, endpoints, keys and configurations are equal, as tests.
+use Rattle.std.specs.Prelude.{◌≡◌, ℕ, Bool, true, false, ◌&&◌, ◌==◌, not, List, [], ◌∷◌, Option, Some, None}
 use Rattle.refl_types.specs.declared.types.Address.{Address}
 use Rattle.refl_types.specs.declared.types.Address.TheVariants.{V4, V6}
 use Rattle.refl_types.specs.declared.types.Endpoint.{Endpoint}
 use Rattle.refl_types.specs.declared.types.Mode.{Mode}
 use Rattle.refl_types.specs.declared.types.Mode.TheVariants.{Plain, Auth, Twamp}
 use Rattle.refl_types.specs.declared.types.Key.{Key}
+use Rattle.refl_types.specs.declared.config.Clock.{Clock}
+use Rattle.refl_types.specs.declared.config.Clock.TheVariants.{Ntp, Ptp}
+use Rattle.refl_types.specs.declared.config.ConfigParts.{ConfigParts}
 
 abbrev pub same_octets : List ℕ → List ℕ → Bool
 same_octets [] [] = true
@@ -29,6 +32,26 @@ same_mode a b = false
 unfoldable pub same_key : Key → Key → Bool
 same_key a b = a.local == b.local && same_endpoint a.peer b.peer && same_mode a.mode b.mode && a.ssid == b.ssid
 
+abbrev pub same_flag : Bool → Bool → Bool
+same_flag true b = b
+same_flag false b = not b
+
+abbrev pub same_clock : Clock → Clock → Bool
+same_clock Ntp Ntp = true
+same_clock Ptp Ptp = true
+same_clock a b = false
+
+abbrev pub same_block : Option (List ℕ) → Option (List ℕ) → Bool
+same_block None None = true
+same_block (Some a) (Some b) = same_octets a b
+same_block a b = false
+
+unfoldable pub same_config : ConfigParts → ConfigParts → Bool
+same_config a b =
+    (same_flag a.stateful b.stateful && same_clock a.clock b.clock && a.offset == b.offset && same_flag a.synced b.synced)
+    && (a.scale == b.scale && a.multiplier == b.multiplier)
+    && (same_octets a.info b.info && a.tlvs == b.tlvs && same_block a.key b.key)
+
 -- the tests are those of equality
 pub record SameIsEqual : Type 0 where
   pub octets : (a b : List ℕ) → same_octets a b ≡ true → a ≡ b
@@ -39,3 +62,5 @@ pub record SameIsEqual : Type 0 where
   pub mode_self : (a : Mode) → same_mode a a ≡ true
   pub key : (a b : Key) → same_key a b ≡ true → a ≡ b
   pub key_self : (a : Key) → same_key a a ≡ true
+  pub config : (a b : ConfigParts) → same_config a b ≡ true → a ≡ b
+  pub config_self : (a : ConfigParts) → same_config a a ≡ true

@@ -2,7 +2,7 @@
 
 ghost use Rattle.refl_types.specs.Same.{SameIsEqual};
 
-/// Octets, endpoints, modes and keys pass their test exactly where they are equal.
+/// Octets, endpoints, modes, keys and configurations pass their test exactly where they are equal.
 pub fn law_same()
     ensures { SameIsEqual }
 {}

@@ -1,0 +1,7 @@
+mod Lists
+mod FaultFacts
+mod PlaceFacts
+mod TlvFacts
+mod NamedFacts
+mod TakenFacts
+mod SessionFacts

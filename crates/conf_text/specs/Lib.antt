@@ -1,0 +1,5 @@
+pub mod Faults
+pub mod Tables
+pub mod Configs
+pub mod Sessions
+pub mod Taken
