@@ -3,3 +3,4 @@ pub mod Tables
 pub mod Configs
 pub mod Sessions
 pub mod Taken
+pub mod File

@@ -1,5 +1,5 @@
 -- A session of the file (this project's own).
-use Rattle.std.specs.Prelude.{ℕ, ◌-◌, ◌*◌, Bool, false, ◌&&◌, ◌||◌, not, if◌then◌else◌, List, [], ◌∷◌, ◌++◌, Option, Some, None, Result, Ok, Err, bytes_eq, codes, is_none}
+use Rattle.std.specs.Prelude.{ℕ, ◌-◌, ◌*◌, Bool, false, ◌&&◌, ◌||◌, not, if◌then◌else◌, List, [], ◌∷◌, ◌++◌, Option, Some, None, Result, Ok, Err, bytes_eq, codes, min, is_none}
 use Rattle.std.specs.List.{list_any}
 use Rattle.toml.specs.Data.{Data, Members, get_member}
 use Rattle.refl_types.specs.declared.types.Mode.{Mode}
@@ -11,7 +11,7 @@ use Rattle.text_forms.specs.Endpoints.{endpoint_from}
 use Rattle.conf_text.specs.declared.configs.Named.{Named}
 use Rattle.conf_text.specs.declared.sessions.Provided.{Provided}
 use Rattle.conf_text.specs.Faults.{Fault, BadValue, ◌>>=◌, within}
-use Rattle.conf_text.specs.Tables.{known_keys, needed, number_at, flag_at, text_of, table_of, or_default, required}
+use Rattle.conf_text.specs.Tables.{known_keys, needed, number_at, flag_at, text_of, list_of, table_of, or_default, required, places, counted, items_len}
 use Rattle.conf_text.specs.Configs.{config_from}
 
 abbrev pub session_keys : List (List ℕ)
@@ -58,3 +58,7 @@ is_refused s earlier = not (is_sound s.key s.extra) || lacks_key s || is_exclude
 
 unfoldable pub session_of : ℕ → List Named → List Provided → List ℕ → Data → Result (List Provided) Fault
 session_of locals configs earlier path d = values_at locals configs path d >>= (λ s. if is_refused s earlier then Err (BadValue path) else Ok (earlier ++ s ∷ []))
+
+-- all sessions
+abbrev pub sessions_of : ℕ → ℕ → List Named → Data → Result (List Provided) Fault
+sessions_of locals slots configs d = list_of (codes "sessions") d >>= (λ ds. counted (codes "sessions") 0 (min 16384 slots) (items_len ds) >>= (λ u. places (session_of locals configs) (codes "sessions") 0 [] ds))

@@ -3,6 +3,7 @@
 
 mod configs;
 mod fault;
+mod root;
 
 mod sessions;
 mod table;

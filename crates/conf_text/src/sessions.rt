@@ -33,6 +33,9 @@ const SESSION_KEYS: [&str; 8] = [
     "symmetrical",
 ];
 
+/// How many sessions a file may have, where there are as many slots.
+const SESSIONS_MAX: u64 = 16384;
+
 const NANOSECONDS: u64 = 1_000_000_000;
 
 /// A session of the file.
@@ -192,4 +195,38 @@ fn session_places(
         found.push(session)?;
     }
     Ok(found)
+}
+
+/// The sessions of a list.
+#[tactic(auto, using(crate::proofs::FaultFacts::passed))]
+fn session_list(
+    alloc: Global,
+    locals: u64,
+    slots: u32,
+    configs: &[Named],
+    value: &Value,
+) -> Result<Vec<Provided>, ConfFault>
+    requires { (1 ≤ locals) × (locals ≤ 16) }
+    ensures { Gives (λ v. v.items) result (spec.sessions_of locals slots configs.now (view value.now)) }
+{
+    let list = list_of(alloc, "sessions", value)?;
+    counted(alloc, "sessions", 0, u64::from(slots).min(SESSIONS_MAX), len_of(list))?;
+    session_places(alloc, locals, configs, list)
+}
+
+/// The sessions of the file, none where there is no list of them.
+pub(crate) fn sessions_of(
+    alloc: Global,
+    locals: u64,
+    slots: u32,
+    configs: &[Named],
+    table: &Table,
+) -> Result<Vec<Provided>, ConfFault>
+    requires { (1 ≤ locals) × (locals ≤ 16) }
+    ensures { Gives (λ v. v.items) result (or_default [] (spec.sessions_of locals slots configs.now) (get_member (codes "sessions") (table_view table.now))) }
+{
+    match find(table, "sessions") {
+        None => Ok(Vec::new(alloc)),
+        Some(value) => session_list(alloc, locals, slots, configs, value),
+    }
 }
