@@ -5,3 +5,7 @@ mod TlvFacts
 mod NamedFacts
 mod TakenFacts
 mod SessionFacts
+mod RowFacts
+mod TextFacts
+mod Binds
+mod LocalFacts

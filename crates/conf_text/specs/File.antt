@@ -1,12 +1,12 @@
 -- What the text of a configuration file stands for, or its first fault (this project's own; TOML 1.0 as the toolchain's `toml` reads it).
-use Rattle.std.specs.Prelude.{◌≡◌, ℕ, ◌-◌, ◌^◌, Bool, false, ◌&&◌, if◌then◌else◌, List, [], ◌∷◌, ◌++◌, length, map, Option, Some, None, Result, Ok, Err, codes, is_some}
+use Rattle.std.specs.Prelude.{◌≡◌, ℕ, ◌-◌, ◌^◌, Bool, false, ◌&&◌, if◌then◌else◌, List, [], ◌∷◌, ◌++◌, length, Option, Some, None, Result, Ok, Err, codes, is_some}
 use Rattle.std.specs.Str.{is_utf8}
 use Rattle.std.specs.List.{list_any}
 use Rattle.toml.specs.Data.{Data, Members, get_member, table}
 use Rattle.toml.specs.Parse.{parse_document}
 use Rattle.refl_types.specs.declared.types.Endpoint.{Endpoint}
 use Rattle.refl_types.specs.declared.config.ConfigParts.{ConfigParts}
-use Rattle.refl_types.specs.Same.{same_endpoint, same_config}
+use Rattle.refl_types.specs.Same.{same_endpoint}
 use Rattle.text_forms.specs.Endpoints.{endpoint_from}
 use Rattle.text_forms.specs.Names.{is_name}
 use Rattle.conf_text.specs.declared.root.Numbers.{Numbers}
@@ -16,6 +16,7 @@ use Rattle.conf_text.specs.Faults.{Fault, NotToml, BadValue, ◌>>=◌}
 use Rattle.conf_text.specs.Tables.{known_keys, needed, number_at, text_of, list_of, or_default, maybe, required, places, counted, items_len}
 use Rattle.conf_text.specs.Configs.{configs_of, find_config}
 use Rattle.conf_text.specs.Sessions.{sessions_of}
+use Rattle.conf_text.specs.Rows.{distinct, in_use}
 
 pub record File : Type 0 where
   pub locals : List Endpoint
@@ -73,22 +74,11 @@ has_config other s = false
 abbrev pub twamp_from : Option Data → List ℕ → Option (List ℕ)
 twamp_from configs s = if is_name s && has_config configs s then Some s else None
 
--- ---- rows
-
--- each configuration once, by its value
-unfoldable pub distinct : List ConfigParts → List ConfigParts
-distinct [] = []
-distinct (c ∷ cs) = if list_any (same_config c) cs then distinct cs else c ∷ distinct cs
-
-abbrev pub in_use : Option ConfigParts → List Provided → List ConfigParts
-in_use None sessions = map (λ s. s.config) sessions
-in_use (Some c) sessions = c ∷ map (λ s. s.config) sessions
+-- ---- the whole
 
 abbrev pub config_named : List Named → Option (List ℕ) → Option ConfigParts
 config_named configs None = None
 config_named configs (Some name) = find_config name configs
-
--- ---- the whole
 
 unfoldable pub file_of : Members → Result File Fault
 file_of t = do

@@ -3,4 +3,7 @@ pub mod Tables
 pub mod Configs
 pub mod Sessions
 pub mod Taken
+pub mod Rows
 pub mod File
+pub mod Kept
+pub mod Sound
