@@ -1,9 +1,9 @@
 -- What readings have read, one after the other.
-use Rattle.std.proofs.Common.{◌≡◌, ℕ, suc, ◌+◌, ◌≤◌, Bool, true, false, ◌&&◌, nat_le, List, [], Result, Ok, Err, Option, Some, None, if◌then◌else◌, cond, decimal, refl, ap, sym, subst, ◌∙◌, arith, add-zero}
+use Rattle.std.proofs.Common.{◌≡◌, ℕ, suc, pos, negsuc, ◌+◌, ◌≤◌, Bool, true, false, ◌&&◌, nat_le, List, [], Result, Ok, Err, Option, Some, None, if◌then◌else◌, cond, decimal, refl, ap, sym, subst, ◌∙◌, arith, add-zero}
 use Rattle.std.proofs.lemmas.Bool.{and_parts}
 use Rattle.std.proofs.lemmas.Bool.Decides.{nat_tests}
-use Rattle.toml.specs.Data.{Data, Items, no_items, item, Members, get_member}
-use Rattle.conf_text.specs.Faults.{Fault, Limit, step, ◌>>=◌}
+use Rattle.toml.specs.Data.{Data, string, integer, float, boolean, datetime, array, table, Items, no_items, item, Members, get_member}
+use Rattle.conf_text.specs.Faults.{Fault, Limit, step, within, ◌>>=◌}
 use Rattle.conf_text.specs.Tables.{number_of, number_at, or_default, maybe, required, places, counted, items_len}
 
 -- where both have read, the first has
@@ -31,3 +31,31 @@ places-keep read key I next (item d ds) i found more held is =
     bind-ok (read found (step key (decimal i)) d) _ _ is (λ one one-is rest.
     let e : suc i + items_len ds ≡ i + suc (items_len ds) = omega arith in
     subst (λ n. I n more) e (places-keep read key I next ds (suc i) one more (next i found one _ d held one-is) rest))
+
+pub number_of-range : (path : List ℕ) (low high : ℕ) (d : Data) (n : ℕ) → number_of path low high d ≡ Ok n → (low ≤ n) × (n ≤ high)
+number_of-range path low high (integer (pos m)) n is = by (nat_le low m && nat_le m high) refl is
+  where
+    by : (t : Bool) → (nat_le low m && nat_le m high) ≡ t → (if t then Ok m else Err (Limit path)) ≡ Ok n → (low ≤ n) × (n ≤ high)
+    by false test e = absurd cc
+    by true test e =
+        let (above, below) = and_parts (nat_le low m) (nat_le m high) test in
+        let same : m ≡ n = ok-is m n e in
+        (grind (arith, nat_tests), grind (arith, nat_tests))
+number_of-range path low high (integer (negsuc m)) n is = absurd cc
+number_of-range path low high (string s) n is = absurd cc
+number_of-range path low high (float x) n is = absurd cc
+number_of-range path low high (boolean b) n is = absurd cc
+number_of-range path low high (datetime x) n is = absurd cc
+number_of-range path low high (array ds) n is = absurd cc
+number_of-range path low high (table ms) n is = absurd cc
+
+pub number_at-range : (key : List ℕ) (low high default : ℕ) (t : Members) (n : ℕ) → low ≤ default → default ≤ high → number_at key low high default t ≡ Ok n → (low ≤ n) × (n ≤ high)
+number_at-range key low high default t n least most is = by (get_member key t) is
+  where
+    by : (o : Option Data) → or_default default (number_of key low high) o ≡ Ok n → (low ≤ n) × (n ≤ high)
+    by None e = let same : default ≡ n = ok-is default n e in (omega (arith, same, least), omega (arith, same, most))
+    by (Some d) e = number_of-range key low high d n e
+
+pub within-ok : {A : Type 0} (key : List ℕ) (r : Result A Fault) (a : A) → within key r ≡ Ok a → r ≡ Ok a
+within-ok key (Ok x) a is = is
+within-ok key (Err e) a is = absurd cc

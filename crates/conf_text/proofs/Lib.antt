@@ -9,3 +9,7 @@ mod RowFacts
 mod TextFacts
 mod Binds
 mod LocalFacts
+mod SoundSessions
+mod SoundConfigs
+mod SoundFiles
+mod Samples

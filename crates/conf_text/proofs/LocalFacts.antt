@@ -1,6 +1,7 @@
 -- The local addresses that are read are 1 to 16, and no two of them are the same.
 use Rattle.std.proofs.Common.{◌≡◌, ℕ, zero, suc, ◌+◌, ◌<◌, ◌≤◌, Bool, true, false, ◌||◌, cond, if◌then◌else◌, List, [], ◌∷◌, ◌++◌, length, get_or, codes, Result, Ok, Err, Option, Some, None, length-append, refl, ap, sym, subst, ◌∙◌, arith}
 use Rattle.std.specs.List.{list_any, AllPairs}
+use Rattle.std.proofs.lemmas.Bool.{or_parts}
 use Rattle.std.proofs.lemmas.List.Quantifiers.{all_pairs_push}
 use Rattle.toml.specs.Data.{Data, Items}
 use Rattle.refl_types.specs.declared.types.Endpoint.{Endpoint}
@@ -11,10 +12,6 @@ use Rattle.conf_text.specs.Tables.{text_of, list_of, counted, items_len, places,
 use Rattle.conf_text.specs.File.{local_of, locals_of}
 use Rattle.conf_text.specs.Sound.{AreDistinct}
 use Rattle.conf_text.proofs.Binds.{bind-ok, ok-is, counted-is, places-keep}
-
-or_parts : (a b : Bool) → (a || b) ≡ false → (a ≡ false) × (b ≡ false)
-or_parts true b e = absurd cc
-or_parts false b e = (refl, e)
 
 -- where no place passes a test, none does by its number
 pub none-at : {A : Type 0} (p : A → Bool) (xs : List A) (k : ℕ) (d : A) → list_any p xs ≡ false → k < length xs → p (get_or xs k d) ≡ false

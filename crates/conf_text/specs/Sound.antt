@@ -1,11 +1,13 @@
 -- What a file that some text stands for has (this project's own).
-use Rattle.std.specs.Prelude.{◌≡◌, ℕ, ◌<◌, ◌≤◌, ◌^◌, Bool, true, false, List, length, Option, Some, None, IsSome}
-use Rattle.std.specs.List.{AllPairs, All}
+use Rattle.std.specs.Prelude.{◌≡◌, ℕ, ◌<◌, ◌≤◌, ◌^◌, Bool, true, false, List, length, map}
+use Rattle.std.specs.List.{AllPairs}
+use Rattle.std.specs.List.Sorted.{IsStrictlySortedBy}
+use Rattle.std.specs.Ordering.{nat_cmp}
+use Rattle.std.specs.Cmp.Lexicographic.{slice_cmp}
 use Rattle.refl_types.specs.declared.types.Endpoint.{Endpoint}
 use Rattle.refl_types.specs.Same.{same_endpoint}
 use Rattle.refl_types.specs.Keys.{is_sound}
 use Rattle.session_key.specs.Matching.{excludes}
-use Rattle.text_forms.specs.Names.{is_name}
 use Rattle.conf_text.specs.declared.configs.Named.{Named}
 use Rattle.conf_text.specs.declared.sessions.Provided.{Provided}
 use Rattle.conf_text.specs.Sessions.{lacks_key}
@@ -15,6 +17,10 @@ use Rattle.conf_text.specs.File.{File}
 -- no two local addresses are the same
 abbrev pub AreDistinct : List Endpoint → Type 0
 AreDistinct locals = AllPairs (λ a b. same_endpoint b a ≡ false) locals
+
+-- names ascend in byte order, so that no two are the same
+abbrev pub AreAscending : List Named → Type 0
+AreAscending configs = IsStrictlySortedBy (slice_cmp nat_cmp) (map (λ c. c.name) configs)
 
 -- no session excludes an earlier one
 abbrev pub AreApart : List Provided → Type 0

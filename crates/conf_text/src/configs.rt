@@ -8,6 +8,7 @@ ghost use Rattle.refl_types.specs.Configs.{are_known_tlvs, may_be_supported, IsC
 ghost use Rattle.conf_text.specs.Faults.{Gives, within};
 ghost use Rattle.conf_text.specs.Tables.{places, or_default, maybe, required, text_of};
 ghost use Rattle.conf_text.specs.Configs as spec;
+ghost use Rattle.conf_text.specs.Sound.{AreAscending};
 
 use crate::fault::{ConfFault, bad_value, below, missing, place};
 use crate::table::{
@@ -233,7 +234,8 @@ fn named_of(alloc: Global, name: &str, value: &Value) -> Result<Named, ConfFault
 
 /// The configurations of a table, in byte order of their names.
 fn all_named(alloc: Global, table: &Table) -> Result<Vec<Named>, ConfFault>
-    ensures { Gives (λ v. v.items) result (spec.all_named [] (table_view table.now)) }
+    ensures value { Gives (λ v. v.items) result (spec.all_named [] (table_view table.now)) }
+    ensures ascending { IfOk result (λ v. AreAscending v.items) }
 {
     let mut found = Vec::new(alloc);
     for (name, value) in table.iter() {
@@ -246,7 +248,8 @@ fn all_named(alloc: Global, table: &Table) -> Result<Vec<Named>, ConfFault>
 /// The configurations at `configs`.
 #[tactic(auto, using(crate::proofs::FaultFacts::passed))]
 fn configs_of(alloc: Global, value: &Value) -> Result<Vec<Named>, ConfFault>
-    ensures { Gives (λ v. v.items) result (spec.configs_of (view value.now)) }
+    ensures value { Gives (λ v. v.items) result (spec.configs_of (view value.now)) }
+    ensures ascending { IfOk result (λ v. AreAscending v.items) }
 {
     let table = table_of(alloc, "configs", value)?;
     counted(alloc, "configs", 1, 256, keys_len(table))?;
@@ -255,7 +258,8 @@ fn configs_of(alloc: Global, value: &Value) -> Result<Vec<Named>, ConfFault>
 
 /// The configurations at `configs`, which must be there.
 pub(crate) fn required_configs(alloc: Global, table: &Table) -> Result<Vec<Named>, ConfFault>
-    ensures { Gives (λ v. v.items) result (required spec.configs_of (codes "configs") (get_member (codes "configs") (table_view table.now))) }
+    ensures value { Gives (λ v. v.items) result (required spec.configs_of (codes "configs") (get_member (codes "configs") (table_view table.now))) }
+    ensures ascending { IfOk result (λ v. AreAscending v.items) }
 {
     match find(table, "configs") {
         None => Err(missing(alloc, "configs")),

@@ -7,7 +7,7 @@ use Rattle.conf_text.proofs.conf.conf_of.Goals as goal
 
 pub invariant_of-result : goal.invariant_of-result
 unfolding file_of
-invariant_of-result c = (c.args.text.now, c.requires ∙ search rules)
+invariant_of-result c = record { sound = (c.args.text.now, c.requires ∙ search rules); names = c.in_ok-configs.ensures.ascending }
 
 pub sessions_of-requires : goal.sessions_of-requires
 sessions_of-requires c =

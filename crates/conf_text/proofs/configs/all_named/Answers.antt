@@ -8,10 +8,11 @@ use Rattle.conf_text.specs.Configs as spec
 use Rattle.conf_text.specs.Faults.{fault_of}
 use Rattle.conf_text.proofs.FaultFacts.{handed}
 use Rattle.conf_text.proofs.NamedFacts.{named-more, named-stopped, named-end}
+use Rattle.conf_text.proofs.SoundConfigs.{all-ascend}
 use Rattle.conf_text.proofs.configs.all_named.Goals as goal
 
-pub returns-in_err-named : goal.returns-in_err-named
-returns-in_err-named c =
+pub returns-in_err-named-clause-value : goal.returns-in_err-named-clause-value
+returns-in_err-named-clause-value c =
     let (can, finite, same) = c.loop-name.invariant in
     let e : Entry = (c.in-Some.name.now, c.in-Some.value.now) in
     let iter : c.loop-name.name-iterator ≡ e ∷ c.next.new.self = grind (arith, common_steps) in
@@ -32,8 +33,11 @@ loop-name-preserved c =
     ∙ named-more found (string_bytes e.0) (view e.1) (members_view c.next.new.self) n (rw (← c.as_str.ensures.value) c.in_ok-named.ensures)
     ∙ ap (λ l. spec.all_named l (members_view c.next.new.self)) (sym grown))
 
-pub returns : goal.returns
-returns c =
+pub returns-clause-value : goal.returns-clause-value
+returns-clause-value c =
     let (can, finite, same) = c.loop-name.invariant in
     let none : c.loop-name.name-iterator ≡ [] = grind (arith, common_steps) in
     same ∙ rw none (named-end c.loop-name.found.items)
+
+pub returns-clause-ascending : goal.returns-clause-ascending
+returns-clause-ascending c = all-ascend c.args.table.now.entries c.loop-name.found.items c.iter-name-items.ensures.ordered (returns-clause-value c)
