@@ -59,7 +59,7 @@ all-hold (member k d ms) found all sound is =
     let more : Holds (found ++ n ∷ []) ms all = all-hold ms (found ++ n ∷ []) all (All-push (λ (c : Named). is_name c.name ≡ true) found n sound (ap is_name name ∙ good)) rest in
     record {
       names = more.names ∙ ap (λ l. l ++ member_keys ms) (map-append (λ (c : Named). c.name) found (n ∷ [])) ∙ append_assoc (names_of found) (n.name ∷ []) (member_keys ms)
-      ∙ ap (λ (x : List ℕ). names_of found ++ x ∷ member_keys ms) name;
+          ∙ ap (λ (x : List ℕ). names_of found ++ x ∷ member_keys ms) name;
       sound = more.sound;
     })
 

@@ -6,16 +6,13 @@ mod configs;
 mod fault;
 mod root;
 mod rows;
-
 mod sessions;
 mod table;
 mod taken;
 
-
 pub use conf::{Conf, read_conf};
 pub use configs::Named;
 pub use fault::ConfFault;
-
 pub use sessions::Provided;
 
 #[cfg(test)]

@@ -210,7 +210,13 @@ fn session_list(
     ensures { Gives (λ v. v.items) result (spec.sessions_of locals slots configs.now (view value.now)) }
 {
     let list = list_of(alloc, "sessions", value)?;
-    counted(alloc, "sessions", 0, u64::from(slots).min(SESSIONS_MAX), len_of(list))?;
+    counted(
+        alloc,
+        "sessions",
+        0,
+        u64::from(slots).min(SESSIONS_MAX),
+        len_of(list),
+    )?;
     session_places(alloc, locals, configs, list)
 }
 

@@ -206,7 +206,11 @@ pub(crate) fn str_of<'a>(alloc: Global, path: &str, value: &'a Value) -> Result<
 }
 
 /// A table.
-pub(crate) fn table_of<'a>(alloc: Global, path: &str, value: &'a Value) -> Result<&'a Table, ConfFault>
+pub(crate) fn table_of<'a>(
+    alloc: Global,
+    path: &str,
+    value: &'a Value,
+) -> Result<&'a Table, ConfFault>
     ensures { Gives (λ t. table_view t.now) result (spec.table_of path.now (view value.now)) }
 {
     match value.as_table() {
@@ -216,7 +220,11 @@ pub(crate) fn table_of<'a>(alloc: Global, path: &str, value: &'a Value) -> Resul
 }
 
 /// The endpoint at a key, which must be there.
-pub(crate) fn required_endpoint(alloc: Global, table: &Table, key: &str) -> Result<Endpoint, ConfFault>
+pub(crate) fn required_endpoint(
+    alloc: Global,
+    table: &Table,
+    key: &str,
+) -> Result<Endpoint, ConfFault>
     ensures { Gives (λ e. e) result (spec.required (spec.text_of endpoint_from key.now) key.now (get_member key.now (table_view table.now))) }
 {
     match find(table, key) {

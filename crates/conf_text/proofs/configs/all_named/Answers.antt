@@ -27,11 +27,13 @@ loop-name-preserved c =
     let iter : c.loop-name.name-iterator ≡ e ∷ c.next.new.self = grind (arith, common_steps) in
     let found = c.loop-name.found.items in
     let n = c.in_ok-named.named in
-    let grown : c.push.new.self.items ≡ found ++ n ∷ [] = grind (arith, common_steps) in
-    (tt, tt,
-    same ∙ ap (λ es. spec.all_named found (members_view es)) iter
-    ∙ named-more found (string_bytes e.0) (view e.1) (members_view c.next.new.self) n (rw (← c.as_str.ensures.value) c.in_ok-named.ensures)
-    ∙ ap (λ l. spec.all_named l (members_view c.next.new.self)) (sym grown))
+    let grown : c.push.new.self.items ≡ found ++ n ∷ [] = grind (arith, common_steps) in (
+      tt,
+      tt,
+      same ∙ ap (λ es. spec.all_named found (members_view es)) iter
+          ∙ named-more found (string_bytes e.0) (view e.1) (members_view c.next.new.self) n (rw (← c.as_str.ensures.value) c.in_ok-named.ensures)
+          ∙ ap (λ l. spec.all_named l (members_view c.next.new.self)) (sym grown),
+    )
 
 pub returns-clause-value : goal.returns-clause-value
 returns-clause-value c =

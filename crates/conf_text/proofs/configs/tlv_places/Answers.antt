@@ -33,9 +33,10 @@ loop-index-preserved c =
     let found = c.loop-index.found in
     let at : get_or vs i v ≡ v = grind (arith, common_steps) in
     let inside : i < length vs = grind (arith, common_steps) in
-    let path : c.deref.result.now ≡ step (codes "tlvs") (decimal i) = grind (arith, common_steps) in
-    (c.in_ok-found.ensures.known c.loop-index.invariant.0,
-    c.loop-index.invariant.1 ∙ place-read tlv_of (codes "tlvs") vs i found v c.deref.result.now c.in_ok-found.found inside at path c.in_ok-found.ensures.value)
+    let path : c.deref.result.now ≡ step (codes "tlvs") (decimal i) = grind (arith, common_steps) in (
+      c.in_ok-found.ensures.known c.loop-index.invariant.0,
+      c.loop-index.invariant.1 ∙ place-read tlv_of (codes "tlvs") vs i found v c.deref.result.now c.in_ok-found.found inside at path c.in_ok-found.ensures.value,
+    )
 
 pub returns-clause-value : goal.returns-clause-value
 returns-clause-value c =

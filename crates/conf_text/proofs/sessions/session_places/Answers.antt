@@ -34,10 +34,11 @@ loop-index-preserved c =
     let inside : i < length vs = grind (arith, common_steps) in
     let path : c.deref.result.now ≡ step (codes "sessions") (decimal i) = grind (arith, common_steps) in
     let s = c.in_ok-session.session in
-    let grown : c.push.new.self.items ≡ found ++ s ∷ [] = grind (arith, common_steps) in
-    (rw grown (c.in_ok-add.ensures found s refl c.loop-index.invariant.0 (c.in_ok-session.ensures.apart found c.loop-index.invariant.0)),
-    c.loop-index.invariant.1 ∙ place-read read (codes "sessions") vs i found v c.deref.result.now (found ++ s ∷ []) inside at path (c.in_ok-session.ensures.value found c.loop-index.invariant.0)
-    ∙ ap (λ l. places read (codes "sessions") (i + 1) l (items_view (drop (i + 1) vs))) (sym grown))
+    let grown : c.push.new.self.items ≡ found ++ s ∷ [] = grind (arith, common_steps) in (
+      rw grown (c.in_ok-add.ensures found s refl c.loop-index.invariant.0 (c.in_ok-session.ensures.apart found c.loop-index.invariant.0)),
+      c.loop-index.invariant.1 ∙ place-read read (codes "sessions") vs i found v c.deref.result.now (found ++ s ∷ []) inside at path (c.in_ok-session.ensures.value found c.loop-index.invariant.0)
+          ∙ ap (λ l. places read (codes "sessions") (i + 1) l (items_view (drop (i + 1) vs))) (sym grown),
+    )
 
 pub returns : goal.returns
 returns c =
