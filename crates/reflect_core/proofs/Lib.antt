@@ -1,3 +1,4 @@
 pub mod Passes
 pub mod Empty
 pub mod Modes
+pub mod Usual

@@ -19,8 +19,8 @@ use Rattle.reflect_core.specs.declared.reflecting.Reply.{Reply}
 use Rattle.reflect_core.specs.Base.{reply_base}
 use Rattle.reflect_core.specs.declared.ends.Ends.{Ends}
 use Rattle.reflect_core.specs.Arrived.{Arrived}
-use Rattle.reflect_core.specs.Ends.{usual_ends, ends_after, ends_of}
-use Rattle.reflect_core.specs.Reflection.{Reflected, IsSentTo, IsReply, plain_reflection, auth_reflection, test_reflection, reflected_octets}
+use Rattle.reflect_core.specs.Ends.{usual_ends, plan_after, ends_after, ends_of}
+use Rattle.reflect_core.specs.Reflection.{Reflected, IsReply, plain_reflection, auth_reflection, test_reflection, reflected_octets}
 
 -- ---- what was read
 
@@ -45,21 +45,30 @@ base_is p c draw m s s' base e same sender = e ∙ ap (λ (q : ConfigParts). rep
 pub block_is : (key : Option (List ℕ)) (block : List ℕ) → key ≡ Some block → block ≡ block_octets key
 block_is key block e = sym (ap block_octets e)
 
--- ---- the octets by mode
+-- ---- the reply by mode
 
-pub plain_is : (mode : Mode) (x : Extra) (c : ConfigParts) (draw : Draw) (d : Arrived) → mode ≡ Plain → plain_reflection c draw d ≡ reflected_octets mode x c draw d
+-- what is written, between which ends
+pub replied : (r : Reflected) (reply : Reply) (ends : Ends) (old new octets : List ℕ) (len : ℕ) → reply.from ≡ ends.from → reply.to ≡ ends.to → reply.len ≡ len → ends.from ≡ r.from → ends.to ≡ r.to → new ≡ octets ++ drop len old → octets ≡ r.octets → length new ≡ length old → len ≤ length old → IsReply r reply old new
+replied r reply ends old new octets len from to end_ of_from of_to e is kept le =
+    let all : new ≡ r.octets ++ drop len old = e ∙ ap (λ (x : List ℕ). x ++ drop len old) is in
+    record {
+      from = from ∙ of_from;
+      to = to ∙ of_to;
+      len = end_ ∙ sym (length_written r.octets old new len all kept le);
+      octets = all ∙ ap (λ (n : ℕ). r.octets ++ drop n old) (sym end_);
+    }
+
+pub plain_is : (mode : Mode) (x : Extra) (c : ConfigParts) (draw : Draw) (d : Arrived) → mode ≡ Plain → plain_reflection c (plan_after 44 c d) draw d ≡ reflected_octets mode x c draw d
 unfolding reflected_octets
 plain_is mode x c draw d e = rw e refl
 
-pub auth_is : (mode : Mode) (x : Extra) (c : ConfigParts) (draw : Draw) (d : Arrived) → mode ≡ Auth → auth_reflection c draw d ≡ reflected_octets mode x c draw d
+pub auth_is : (mode : Mode) (x : Extra) (c : ConfigParts) (draw : Draw) (d : Arrived) → mode ≡ Auth → auth_reflection c (plan_after 112 c d) draw d ≡ reflected_octets mode x c draw d
 unfolding reflected_octets
 auth_is mode x c draw d e = rw e refl
 
 pub test_is : (mode : Mode) (x : Extra) (c : ConfigParts) (draw : Draw) (d : Arrived) → mode ≡ Twamp → test_reflection x c draw d ≡ reflected_octets mode x c draw d
 unfolding reflected_octets
 test_is mode x c draw d e = rw e refl
-
--- ---- the ends by mode
 
 pub plain_ends : (mode : Mode) (c : ConfigParts) (d : Arrived) → mode ≡ Plain → ends_after 44 Plain c d ≡ ends_of mode c d
 unfolding ends_of
@@ -72,8 +81,3 @@ auth_ends mode c d e = rw e refl
 pub test_ends : (mode : Mode) (c : ConfigParts) (d : Arrived) → mode ≡ Twamp → usual_ends d.meta ≡ ends_of mode c d
 unfolding ends_of
 test_ends mode c d e = rw e refl
-
-pub replied : (r : Reflected) (ends : Ends) (reply : Reply) (old new octets : List ℕ) → IsSentTo ends reply → ends.from ≡ r.from → ends.to ≡ r.to → new ≡ octets ++ drop reply.len old → octets ≡ r.octets → length new ≡ length old → reply.len ≤ length old → IsReply r reply old new
-replied r ends reply old new octets sent from to e is kept le =
-    let all : new ≡ r.octets ++ drop reply.len old = e ∙ ap (λ (x : List ℕ). x ++ drop reply.len old) is in
-    record { from = sent.from ∙ from; to = sent.to ∙ to; len = sym (length_written r.octets old new reply.len all kept le); octets = all }

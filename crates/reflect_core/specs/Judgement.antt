@@ -14,16 +14,32 @@ use Rattle.reflect_core.specs.Ends.{has_intact_tail}
 abbrev pub judged_length : ℕ → List ℕ → Judged
 judged_length least octets = if nat_lt (length octets) least then Silent Short else Reflect
 
+abbrev pub judged_auth : ConfigParts → List ℕ → Judged
+judged_auth c octets =
+    if nat_lt (length octets) 112 then Silent Short
+    else (if has_base_hmac (block_octets c.key) octets then Reflect
+    else Silent BadHmac)
+
+-- In mode Auth the HMAC of the base packet is compared besides.
+abbrev pub judged_base : Mode → ConfigParts → List ℕ → Judged
+judged_base Plain c octets = judged_length 44 octets
+judged_base Twamp c octets = judged_length 14 octets
+judged_base Auth c octets = judged_auth c octets
+
 -- A tail whose integrity hasn't failed may ask for no reply.
 abbrev pub judged_tail : ℕ → Mode → ConfigParts → List ℕ → Judged
 judged_tail len mode c octets =
     if no_reply c (drop len octets) && has_intact_tail len mode c octets then Silent NoReply else Reflect
 
--- In mode Auth the HMAC of the base packet is compared besides.
+abbrev pub judged_behind : Mode → ConfigParts → List ℕ → Judged
+judged_behind Plain c octets = judged_tail 44 Plain c octets
+judged_behind Twamp c octets = Reflect
+judged_behind Auth c octets = judged_tail 112 Auth c octets
+
+-- the base packet, and then the tail
+abbrev pub and_then : Judged → Judged → Judged
+and_then (Silent cause) tail = Silent cause
+and_then Reflect tail = tail
+
 abbrev pub judgement : Mode → ConfigParts → List ℕ → Judged
-judgement Plain c octets = if nat_lt (length octets) 44 then Silent Short else judged_tail 44 Plain c octets
-judgement Twamp c octets = judged_length 14 octets
-judgement Auth c octets =
-    if nat_lt (length octets) 112 then Silent Short
-    else (if has_base_hmac (block_octets c.key) octets then judged_tail 112 Auth c octets
-    else Silent BadHmac)
+judgement mode c octets = and_then (judged_base mode c octets) (judged_behind mode c octets)

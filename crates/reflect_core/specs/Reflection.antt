@@ -13,18 +13,14 @@ use Rattle.stamp_auth.specs.Request.{auth_sender_of}
 use Rattle.stamp_auth.specs.Reply.{auth_reply}
 use Rattle.twamp_test.specs.Request.{test_sender_of}
 use Rattle.twamp_test.specs.Reply.{test_reply}
+use Rattle.tlv_actions.specs.declared.facts.Plan.{Plan}
 use Rattle.tlv_actions.specs.declared.facts.ReplyFacts.{ReplyFacts}
 use Rattle.reflect_core.specs.declared.session.Draw.{Draw}
-use Rattle.reflect_core.specs.declared.ends.Ends.{Ends}
 use Rattle.reflect_core.specs.declared.reflecting.Reply.{Reply}
 use Rattle.reflect_core.specs.Arrived.{Arrived}
 use Rattle.reflect_core.specs.Base.{reply_base}
 use Rattle.reflect_core.specs.Ends.{plan_after, ends_of}
 use Rattle.reflect_core.specs.Tail.{tail_after}
-
--- what the TLVs of a reply tell, behind a base packet of as many octets
-abbrev pub facts_after : ℕ → ConfigParts → Draw → Arrived → ReplyFacts
-facts_after len c draw d = record { n = draw.number; plan = plan_after len c d }
 
 -- ---- the octets, from the fields of the base packet
 
@@ -34,19 +30,33 @@ plain_octets c facts base octets = plain_reply base ++ tail_after 44 Plain c fac
 abbrev pub auth_octets : ConfigParts → ReplyFacts → ReplyBase → List ℕ → List ℕ
 auth_octets c facts base octets = auth_reply (block_octets c.key) base ++ tail_after 112 Auth c facts base.sequence octets
 
-abbrev pub plain_reflection : ConfigParts → Draw → Arrived → List ℕ
-plain_reflection c draw d = plain_octets c (facts_after 44 c draw d) (reply_base c draw d.meta (sender_of d.octets)) d.octets
+-- under a plan
+abbrev pub plain_reflection : ConfigParts → Plan → Draw → Arrived → List ℕ
+plain_reflection c plan draw d =
+    plain_octets c (record { n = draw.number; plan = plan }) (reply_base c draw d.meta (sender_of d.octets)) d.octets
 
-abbrev pub auth_reflection : ConfigParts → Draw → Arrived → List ℕ
-auth_reflection c draw d = auth_octets c (facts_after 112 c draw d) (reply_base c draw d.meta (auth_sender_of d.octets)) d.octets
+abbrev pub auth_reflection : ConfigParts → Plan → Draw → Arrived → List ℕ
+auth_reflection c plan draw d =
+    auth_octets c (record { n = draw.number; plan = plan }) (reply_base c draw d.meta (auth_sender_of d.octets)) d.octets
 
 abbrev pub test_reflection : Extra → ConfigParts → Draw → Arrived → List ℕ
 test_reflection x c draw d = test_reply x (reply_base c draw d.meta (test_sender_of d.octets)) d.octets
 
 unfoldable pub reflected_octets : Mode → Extra → ConfigParts → Draw → Arrived → List ℕ
-reflected_octets Plain x c draw d = plain_reflection c draw d
-reflected_octets Auth x c draw d = auth_reflection c draw d
+reflected_octets Plain x c draw d = plain_reflection c (plan_after 44 c d) draw d
+reflected_octets Auth x c draw d = auth_reflection c (plan_after 112 c d) draw d
 reflected_octets Twamp x c draw d = test_reflection x c draw d
+
+-- ---- a buffer that begins with the reply of each mode, and is as before past its length
+
+abbrev pub WritesPlain : ConfigParts → Plan → Draw → Arrived → List ℕ → List ℕ → Type 0
+WritesPlain c plan draw d old new = new ≡ plain_reflection c plan draw d ++ drop (length d.octets) old
+
+abbrev pub WritesAuth : ConfigParts → Plan → Draw → Arrived → List ℕ → List ℕ → Type 0
+WritesAuth c plan draw d old new = new ≡ auth_reflection c plan draw d ++ drop (length d.octets) old
+
+abbrev pub WritesTest : Extra → ConfigParts → Draw → Arrived → ℕ → List ℕ → List ℕ → Type 0
+WritesTest x c draw d len old new = new ≡ test_reflection x c draw d ++ drop len old
 
 -- ---- a reply: from which local address, to whom, and its octets
 
@@ -63,11 +73,6 @@ reflection k x c draw d = record {
   to = (ends_of k.mode c d).to;
   octets = reflected_octets k.mode x c draw d;
 }
-
--- a reply is sent between these ends
-pub record IsSentTo (ends : Ends) (reply : Reply) : Type 0 where
-  pub from : reply.from ≡ ends.from
-  pub to : reply.to ≡ ends.to
 
 -- A reply was written to the front of a buffer. All other octets are as before.
 pub record IsReply (r : Reflected) (reply : Reply) (old new : List ℕ) : Type 0 where

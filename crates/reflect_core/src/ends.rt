@@ -1,6 +1,6 @@
 //! From where and to whom a reply is sent.
 
-ghost use Rattle.std.specs.Prelude.{◌≡◌};
+ghost use Rattle.std.specs.Prelude.{◌≡◌, if◌then◌else◌};
 ghost use Rattle.reflect_core.specs.Ends.{usual_ends, planned_ends};
 
 use refl_types::{Endpoint, Meta};
@@ -26,13 +26,17 @@ pub fn usual_ends(meta: &Meta) -> Ends
     }
 }
 
-/// Those of a plan.
+/// Those of a plan, if it is followed.
 #[inline(always)]
-pub fn planned_ends(plan: &Plan) -> Ends
-    ensures { result ≡ planned_ends plan.now }
+pub fn ends_of(followed: bool, plan: &Plan, meta: &Meta) -> Ends
+    ensures { result ≡ (if followed then planned_ends plan.now else usual_ends meta.now) }
 {
-    Ends {
-        from: plan.from,
-        to: plan.to,
+    if followed {
+        Ends {
+            from: plan.from,
+            to: plan.to,
+        }
+    } else {
+        usual_ends(meta)
     }
 }

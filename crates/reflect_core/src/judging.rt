@@ -2,7 +2,7 @@
 
 ghost use Rattle.std.specs.Prelude.{◌≡◌, ◌≤◌, IsSome, length};
 ghost use Rattle.refl_types.specs.HmacKey.{HasHmacKey};
-ghost use Rattle.reflect_core.specs.Judgement.{judgement, judged_length, judged_tail};
+ghost use Rattle.reflect_core.specs.Judgement.{judgement, judged_length, judged_auth, judged_base, judged_tail};
 
 use crate::session::Session;
 use crate::tails::has_intact_tail;
@@ -46,9 +46,22 @@ fn judge_length(octets: &[u8], least: usize) -> Judged
     }
 }
 
-/// Whether the tail behind a base packet of as many octets asks for no reply. That is rare, so its integrity is looked
-/// at last.
-#[inline(always)]
+#[inline(never)]
+fn judge_auth(config: &KeyedConfig, octets: &[u8]) -> Judged
+    requires { IsSome config.now.key }
+    ensures { result ≡ judged_auth config.now octets.now }
+{
+    let Some(key) = config.hmac_key() else {
+        unreachable!();
+    };
+    match read_auth_keyed(key, octets) {
+        Ok(_) => Judged::Reflect,
+        Err(AuthFault::Short) => Judged::Silent(Silent::Short),
+        Err(AuthFault::BadHmac) => Judged::Silent(Silent::BadHmac),
+    }
+}
+
+/// Whether the tail behind a base packet of as many octets asks for no reply. Its integrity is looked at last.
 fn judge_tail(mode: Mode, config: &KeyedConfig, octets: &[u8], at: usize) -> Judged
     requires base { 4 ≤ at }
     requires tail { at ≤ length octets.now }
@@ -62,43 +75,46 @@ fn judge_tail(mode: Mode, config: &KeyedConfig, octets: &[u8], at: usize) -> Jud
     }
 }
 
-#[inline(always)]
-fn judge_plain(config: &KeyedConfig, octets: &[u8]) -> Judged
-    ensures { result ≡ judgement Mode.Plain config.now octets.now }
-{
-    if octets.len() < PLAIN_LEN {
-        return Judged::Silent(Silent::Short);
-    }
-    judge_tail(Mode::Plain, config, octets, PLAIN_LEN)
-}
-
-#[inline(never)]
-fn judge_auth(config: &KeyedConfig, octets: &[u8]) -> Judged
-    requires { IsSome config.now.key }
-    ensures { result ≡ judgement Mode.Auth config.now octets.now }
-{
-    let Some(key) = config.hmac_key() else {
-        unreachable!();
-    };
-    match read_auth_keyed(key, octets) {
-        Ok(_) => judge_tail(Mode::Auth, config, octets, AUTH_LEN),
-        Err(AuthFault::Short) => Judged::Silent(Silent::Short),
-        Err(AuthFault::BadHmac) => Judged::Silent(Silent::BadHmac),
-    }
-}
-
 impl Session<'_> {
+    /// Whether the base packet of a datagram of the session is one: not where it is shorter than that of the session's
+    /// mode, and in mode Auth not where its HMAC is another.
+    #[inline(always)]
+    fn judge_base(&self, octets: &[u8]) -> Judged
+        ensures { result ≡ judged_base self.now.key.now.mode self.now.config.now octets.now }
+    {
+        match self.key.mode {
+            Mode::Plain => judge_length(octets, PLAIN_LEN),
+            Mode::Twamp => judge_length(octets, TEST_LEN),
+            Mode::Auth => judge_auth(self.config, octets),
+        }
+    }
+
+    /// Whether a datagram is reflected, where its tail may ask for no reply.
+    #[inline(never)]
+    fn judge_whole(&self, octets: &[u8]) -> Judged
+        ensures { result ≡ judgement self.now.key.now.mode self.now.config.now octets.now }
+    {
+        let base = self.judge_base(octets);
+        if base != Judged::Reflect {
+            return base;
+        }
+        match self.key.mode {
+            Mode::Plain => judge_tail(Mode::Plain, self.config, octets, PLAIN_LEN),
+            Mode::Twamp => Judged::Reflect,
+            Mode::Auth => judge_tail(Mode::Auth, self.config, octets, AUTH_LEN),
+        }
+    }
+
     /// Whether a datagram of the session is reflected: not where it is shorter than the base packet of the session's
     /// mode, in mode Auth not where the HMAC of its base packet is another, and not where its tail asks for no reply.
     #[inline(always)]
     pub fn judge(&self, octets: &[u8]) -> Judged
         ensures { result ≡ judgement self.now.key.now.mode self.now.config.now octets.now }
     {
-        match self.key.mode {
-            Mode::Plain => judge_plain(self.config, octets),
-            Mode::Twamp => judge_length(octets, TEST_LEN),
-            Mode::Auth => judge_auth(self.config, octets),
+        if self.may_redirect() {
+            return self.judge_whole(octets);
         }
+        self.judge_base(octets)
     }
 }
 

@@ -1,22 +1,25 @@
 //! The reflection of a datagram (RFC 8762, section 4.3; RFC 9503, sections 3 and 4; RFC 5357, section 4.2).
 
-ghost use Rattle.std.specs.Prelude.{◌≡◌, ◌≤◌, ◌++◌, IsSome, length, drop};
+ghost use Rattle.std.specs.Prelude.{◌≡◌, ◌≤◌, ◌||◌, false, IsSome, List, length};
 ghost use Rattle.refl_types.specs.HmacKey.{HasHmacKey};
 ghost use Rattle.refl_types.specs.declared.types.Mode.TheVariants.{Plain, Auth, Twamp};
 ghost use Rattle.reflect_core.specs.declared.judging.Judged.TheVariants.{Reflect};
 ghost use Rattle.reflect_core.specs.Judgement.{judgement};
 ghost use Rattle.reflect_core.specs.Arrived.{arrived};
-ghost use Rattle.reflect_core.specs.Ends.{usual_ends, ends_after};
-ghost use Rattle.reflect_core.specs.Reflection.{plain_reflection, auth_reflection, test_reflection, reflection, IsSentTo, IsReply};
+ghost use Rattle.reflect_core.specs.Ends.{has_intact_tail, plan_after};
+ghost use Rattle.reflect_core.specs.Reflection.{WritesPlain, WritesAuth, WritesTest, reflection, IsReply};
+ghost use Rattle.tlv_actions.specs.Rows.{destination_node_address, return_path, is_understood};
+ghost use Rattle.refl_types.specs.declared.types.Endpoint.{Endpoint};
 
 use crate::base::reply_base;
-use crate::ends::{Ends, usual_ends};
+use crate::ends::{Ends, ends_of, usual_ends};
 use crate::session::{Datagram, Draw, Session};
 use crate::tails::write_tail_after;
 use keyed_config::KeyedConfig;
-use refl_types::{Config, Endpoint, Extra, Key, LocalAddr, Meta, Mode};
+use refl_types::{Address, Config, Endpoint, Extra, Key, LocalAddr, Meta, Mode};
 use stamp_auth::{auth_sender, write_auth_keyed};
 use stamp_packet::{read_plain, write_plain_to};
+use tlv_actions::{Plan, may_redirect, plan};
 use twamp_test::{read_test, write_test_to};
 
 /// Octets of an unauthenticated base packet (RFC 8762, section 4.2.1).
@@ -36,6 +39,28 @@ pub struct Reply {
     pub len: usize,
 }
 
+/// What the TLVs of a reply tell of a plan, where none of them is of RFC 9503. The ends aren't told by TLVs.
+const NO_PLACES: Plan = Plan {
+    from: 0,
+    to: Endpoint {
+        address: Address::V4([0; 4]),
+        port: 0,
+    },
+    nine: None,
+    own_at: None,
+    path_at: None,
+};
+
+/// What the tail behind a base packet of as many octets asks for.
+fn plan_after(at: usize, config: &KeyedConfig, datagram: &Datagram) -> Plan
+    requires tail { at ≤ length datagram.now.octets.now }
+    requires locals { length datagram.now.locals.now ≤ 16 }
+    ensures { result ≡ plan_after at config.now (arrived datagram.now) }
+{
+    let (_, tail) = datagram.octets.split_at(at);
+    plan(config.config(), datagram.locals, datagram.meta, tail)
+}
+
 /// A reply of so many octets.
 #[inline(always)]
 fn reply_of(ends: &Ends, len: usize) -> Reply
@@ -50,50 +75,52 @@ fn reply_of(ends: &Ends, len: usize) -> Reply
     }
 }
 
-/// Writes the reply of an unauthenticated STAMP session.
+/// Writes the reply of an unauthenticated STAMP session, and says whether the integrity of the tail hasn't failed.
 #[inline(always)]
-fn reflect_plain(config: &KeyedConfig, draw: &Draw, datagram: &Datagram, out: &mut [u8]) -> Reply
+fn reflect_plain(
+    config: &KeyedConfig,
+    plan: &Plan,
+    draw: &Draw,
+    datagram: &Datagram,
+    out: &mut [u8],
+) -> bool
     requires judged { 44 ≤ length datagram.now.octets.now }
-    requires locals { length datagram.now.locals.now ≤ 16 }
     requires room { length datagram.now.octets.now ≤ length out.old }
-    ensures ends { IsSentTo (ends_after 44 Plain config.now (arrived datagram.now)) result }
-    ensures len { result.len ≡ length datagram.now.octets.now }
-    ensures octets { out.new ≡ plain_reflection config.now draw.now (arrived datagram.now) ++ drop (length datagram.now.octets.now) out.old }
+    ensures intact { result ≡ has_intact_tail 44 Plain config.now datagram.now.octets.now }
+    ensures octets { WritesPlain config.now plan.now draw.now (arrived datagram.now) out.old out.new }
 {
     let input = datagram.octets;
     let sender = read_plain(input).unwrap();
     let base = reply_base(config.as_parts(), draw, datagram.meta, &sender);
     write_plain_to(&base, input, out);
-    let ends = write_tail_after(
+    write_tail_after(
         Mode::Plain,
         config,
         draw.number,
+        plan,
         base.sequence,
         PLAIN_LEN,
-        datagram,
+        input,
         out,
-    );
-    reply_of(&ends, input.len())
+    )
 }
 
-/// Writes the reply of an authenticated STAMP session. It stands out of line and takes copies, so that the fields of an
-/// unauthenticated datagram can stay in registers.
+/// Writes the reply of an authenticated STAMP session, and says whether the integrity of the tail hasn't failed. It
+/// stands out of line and takes copies, so that the fields of an unauthenticated datagram can stay in registers.
 #[inline(never)]
 fn reflect_auth(
     config: &KeyedConfig,
+    plan: &Plan,
     draw: Draw,
     meta: Meta,
-    locals: &[LocalAddr],
     input: &[u8],
     out: &mut [u8],
-) -> Reply
+) -> bool
     requires key { IsSome config.now.key }
     requires judged { 112 ≤ length input.now }
-    requires locals { length locals.now ≤ 16 }
     requires room { length input.now ≤ length out.old }
-    ensures ends { IsSentTo (ends_after 112 Auth config.now (record { meta = meta; octets = input.now; locals = locals.now })) result }
-    ensures len { result.len ≡ length input.now }
-    ensures octets { out.new ≡ auth_reflection config.now draw (record { meta = meta; octets = input.now; locals = locals.now }) ++ drop (length input.now) out.old }
+    ensures intact { result ≡ has_intact_tail 112 Auth config.now input.now }
+    ensures octets { (locals : List Endpoint) → WritesAuth config.now plan.now draw (record { meta = meta; octets = input.now; locals = locals }) out.old out.new }
 {
     let Some(key) = config.hmac_key() else {
         unreachable!();
@@ -101,24 +128,19 @@ fn reflect_auth(
     let sender = auth_sender(input);
     let base = reply_base(config.as_parts(), &draw, &meta, &sender);
     write_auth_keyed(key, &base, out);
-    let datagram = Datagram {
-        meta: &meta,
-        octets: input,
-        locals,
-    };
-    let ends = write_tail_after(
+    write_tail_after(
         Mode::Auth,
         config,
         draw.number,
+        plan,
         base.sequence,
         AUTH_LEN,
-        &datagram,
+        input,
         out,
-    );
-    reply_of(&ends, input.len())
+    )
 }
 
-/// Writes the reply of a TWAMP-Test session.
+/// Writes the reply of a TWAMP-Test session, and says how many octets it has.
 #[inline(always)]
 fn reflect_test(
     extra: &Extra,
@@ -126,21 +148,99 @@ fn reflect_test(
     draw: &Draw,
     datagram: &Datagram,
     out: &mut [u8],
-) -> Reply
+) -> usize
     requires judged { 14 ≤ length datagram.now.octets.now }
     requires limit { length datagram.now.octets.now ≤ 65507 }
     requires room { 65536 ≤ length out.old }
-    ensures ends { IsSentTo (usual_ends datagram.now.meta.now) result }
-    ensures limit { result.len ≤ 65507 }
-    ensures octets { out.new ≡ test_reflection extra.now config.now draw.now (arrived datagram.now) ++ drop result.len out.old }
+    ensures limit { result ≤ 65507 }
+    ensures octets { WritesTest extra.now config.now draw.now (arrived datagram.now) result out.old out.new }
 {
     let sender = read_test(datagram.octets).unwrap();
     let base = reply_base(config.as_parts(), draw, datagram.meta, &sender);
-    let len = write_test_to(extra, &base, datagram.octets, out);
-    reply_of(&usual_ends(datagram.meta), len)
+    write_test_to(extra, &base, datagram.octets, out)
 }
 
 impl Session<'_> {
+    /// Whether a tail of the session may say from where and to whom its reply is sent.
+    #[inline(always)]
+    pub fn may_redirect(&self) -> bool
+        ensures { result ≡ (is_understood self.now.config.now destination_node_address || is_understood self.now.config.now return_path) }
+    {
+        may_redirect(self.config.config())
+    }
+
+    /// Writes the reply, where no tail may say from where and to whom it is sent.
+    #[inline(always)]
+    fn reflect_usual(&self, datagram: &Datagram, draw: &Draw, out: &mut [u8]) -> Reply
+        requires usual { (is_understood self.now.config.now destination_node_address || is_understood self.now.config.now return_path) ≡ false }
+        requires judged { judgement self.now.key.now.mode self.now.config.now datagram.now.octets.now ≡ Reflect }
+        requires limit { length datagram.now.octets.now ≤ 65507 }
+        requires room { 65536 ≤ length out.old }
+        ensures reply { IsReply (reflection self.now.key.now self.now.extra.now self.now.config.now draw.now (arrived datagram.now)) result out.old out.new }
+        ensures limit { result.len ≤ 65507 }
+        ensures size { (self.now.key.now.mode ≡ Twamp → ⊥) → result.len ≡ length datagram.now.octets.now }
+    {
+        let config = self.config;
+        let ends = usual_ends(datagram.meta);
+        match self.key.mode {
+            Mode::Plain => {
+                let _intact = reflect_plain(config, &NO_PLACES, draw, datagram, out);
+                reply_of(&ends, datagram.octets.len())
+            }
+            Mode::Twamp => {
+                let len = reflect_test(self.extra, config, draw, datagram, out);
+                reply_of(&ends, len)
+            }
+            Mode::Auth => {
+                let input = datagram.octets;
+                let _intact = reflect_auth(config, &NO_PLACES, *draw, *datagram.meta, input, out);
+                reply_of(&ends, input.len())
+            }
+        }
+    }
+
+    /// Writes the reply, where a tail may say from where and to whom it is sent.
+    #[inline(never)]
+    fn reflect_planned(
+        &self,
+        meta: Meta,
+        octets: &[u8],
+        locals: &[LocalAddr],
+        draw: Draw,
+        out: &mut [u8],
+    ) -> Reply
+        requires judged { judgement self.now.key.now.mode self.now.config.now octets.now ≡ Reflect }
+        requires limit { length octets.now ≤ 65507 }
+        requires locals { length locals.now ≤ 16 }
+        requires room { 65536 ≤ length out.old }
+        ensures reply { IsReply (reflection self.now.key.now self.now.extra.now self.now.config.now draw (record { meta = meta; octets = octets.now; locals = locals.now })) result out.old out.new }
+        ensures limit { result.len ≤ 65507 }
+        ensures size { (self.now.key.now.mode ≡ Twamp → ⊥) → result.len ≡ length octets.now }
+    {
+        let config = self.config;
+        let datagram = Datagram {
+            meta: &meta,
+            octets,
+            locals,
+        };
+        match self.key.mode {
+            Mode::Plain => {
+                let plan = plan_after(PLAIN_LEN, config, &datagram);
+                let intact = reflect_plain(config, &plan, &draw, &datagram, out);
+                reply_of(&ends_of(intact, &plan, &meta), octets.len())
+            }
+            Mode::Twamp => {
+                let len = reflect_test(self.extra, config, &draw, &datagram, out);
+                reply_of(&usual_ends(&meta), len)
+            }
+            Mode::Auth => {
+                let plan = plan_after(AUTH_LEN, config, &datagram);
+                let intact = reflect_auth(config, &plan, draw, meta, octets, out);
+                reply_of(&ends_of(intact, &plan, &meta), octets.len())
+            }
+        }
+    }
+
     /// Writes the reply to a datagram that is to be reflected. Octets of the buffer past the reply stay.
     #[inline(always)]
     pub fn reflect(&self, datagram: &Datagram, draw: &Draw, out: &mut [u8]) -> Reply
@@ -152,17 +252,15 @@ impl Session<'_> {
         ensures limit { result.len ≤ 65507 }
         ensures size { (self.now.key.now.mode ≡ Twamp → ⊥) → result.len ≡ length datagram.now.octets.now }
     {
-        let config = self.config;
-        let Datagram {
-            meta,
-            octets,
-            locals,
-        } = *datagram;
-        match self.key.mode {
-            Mode::Plain => reflect_plain(config, draw, datagram, out),
-            Mode::Twamp => reflect_test(self.extra, config, draw, datagram, out),
-            Mode::Auth => reflect_auth(config, *draw, *meta, locals, octets, out),
+        if self.may_redirect() {
+            let Datagram {
+                meta,
+                octets,
+                locals,
+            } = *datagram;
+            return self.reflect_planned(*meta, octets, locals, *draw, out);
         }
+        self.reflect_usual(datagram, draw, out)
     }
 }
 

@@ -3,16 +3,13 @@
 ghost use Rattle.std.specs.Prelude.{◌≡◌, ◌+◌, ◌≤◌, ◌++◌, length, take, slice_index_or};
 ghost use Rattle.tlv_chain.specs.Split.{split};
 ghost use Rattle.tlv_integrity.specs.Integrity.{integrity};
-ghost use Rattle.reflect_core.specs.Arrived.{arrived};
 ghost use Rattle.reflect_core.specs.Tail.{failed_reply, processed_reply, WritesTail, tail_reply, with_flags, rest_flags};
-ghost use Rattle.reflect_core.specs.Ends.{is_intact, has_intact_tail, plan_after, ends_after};
+ghost use Rattle.reflect_core.specs.Ends.{is_intact, has_intact_tail};
 
-use crate::ends::{Ends, planned_ends, usual_ends};
-use crate::session::Datagram;
 use keyed_config::KeyedConfig;
 use octet_format::{field4, put};
 use refl_types::Mode;
-use tlv_actions::{Acted, ReplyFacts, act, copy_tlv, is_understood, plan};
+use tlv_actions::{Acted, Plan, ReplyFacts, act, copy_tlv, is_understood};
 use tlv_chain::Walk;
 use tlv_integrity::{Integrity, check_keyed, seal_keyed};
 
@@ -86,14 +83,18 @@ fn rest_flags(config: &KeyedConfig, rest: &[u8]) -> u8
 
 /// Writes what the reply has for each TLV, up to a malformed one.
 #[inline(never)]
-fn process(config: &KeyedConfig, facts: &ReplyFacts, tail: &[u8], out: &mut [u8])
+fn process(config: &KeyedConfig, number: u32, plan: &Plan, tail: &[u8], out: &mut [u8])
     requires { length out.old ≡ length tail.now }
-    ensures { out.new ≡ processed_reply config.now facts.now (split tail.now) }
+    ensures { out.new ≡ processed_reply config.now (record { n = number; plan = plan.now }) (split tail.now) }
 {
+    let facts = ReplyFacts {
+        n: number,
+        plan: *plan,
+    };
     put_last(tail, 0, out);
     let mut walk = Walk::new(tail);
     while let Some(span) = walk.next() {
-        if let Acted::Malformed = act(config.config(), facts, tail, &span, out) {
+        if let Acted::Malformed = act(config.config(), &facts, tail, &span, out) {
             return;
         }
     }
@@ -107,14 +108,15 @@ fn process(config: &KeyedConfig, facts: &ReplyFacts, tail: &[u8], out: &mut [u8]
 fn write_tail(
     mode: Mode,
     config: &KeyedConfig,
-    facts: &ReplyFacts,
+    number: u32,
+    plan: &Plan,
     asked: &[u8; 4],
     answered: &[u8; 4],
     tail: &[u8],
     out: &mut [u8],
 ) -> bool
     requires { length out.old ≡ length tail.now }
-    ensures octets { out.new ≡ tail_reply mode config.now facts.now asked.now answered.now tail.now }
+    ensures octets { out.new ≡ tail_reply mode config.now (record { n = number; plan = plan.now }) asked.now answered.now tail.now }
     ensures intact { result ≡ is_intact (integrity mode config.now asked.now tail.now) }
 {
     match check_keyed(mode, config, asked, tail) {
@@ -123,76 +125,74 @@ fn write_tail(
             false
         }
         Integrity::Absent => {
-            process(config, facts, tail, out);
+            process(config, number, plan, tail, out);
             true
         }
         Integrity::Passed(at) => {
-            process(config, facts, tail, out);
+            process(config, number, plan, tail, out);
             seal_keyed(config, answered, out, at);
             true
         }
     }
 }
 
-/// Writes the tail of a reply after its base packet, which has as many octets as the request's, and says from where and
-/// to whom the reply goes.
+/// Writes the tail of a reply after its base packet, which has as many octets as the request's, and says whether the
+/// integrity of the request's tail hasn't failed.
 #[inline(always)]
 fn write_tail_at(
     mode: Mode,
     config: &KeyedConfig,
     number: u32,
+    plan: &Plan,
     sequence: u32,
     at: usize,
-    datagram: &Datagram,
+    input: &[u8],
     out: &mut [u8],
-) -> Ends
+) -> bool
     requires base { 4 ≤ at }
-    requires tail { at ≤ length datagram.now.octets.now }
-    requires locals { length datagram.now.locals.now ≤ 16 }
-    requires room { length datagram.now.octets.now ≤ length out.old }
-    ensures octets { WritesTail mode config.now (record { n = number; plan = plan_after at config.now (arrived datagram.now) }) sequence at datagram.now.octets.now out.old out.new }
-    ensures ends { result ≡ ends_after at mode config.now (arrived datagram.now) }
+    requires tail { at ≤ length input.now }
+    requires room { length input.now ≤ length out.old }
+    ensures octets { WritesTail mode config.now (record { n = number; plan = plan.now }) sequence at input.now out.old out.new }
+    ensures intact { result ≡ has_intact_tail at mode config.now input.now }
 {
-    let input = datagram.octets;
     let (_, tail) = input.split_at(at);
-    let facts = ReplyFacts {
-        n: number,
-        plan: plan(config.config(), datagram.locals, datagram.meta, tail),
-    };
     let asked = field4(input, 0);
     let answered = sequence.to_be_bytes();
-    let out = &mut out[at..input.len()];
-    if write_tail(mode, config, &facts, &asked, &answered, tail, out) {
-        planned_ends(&facts.plan)
-    } else {
-        usual_ends(datagram.meta)
-    }
+    write_tail(
+        mode,
+        config,
+        number,
+        plan,
+        &asked,
+        &answered,
+        tail,
+        &mut out[at..input.len()],
+    )
 }
 
-/// Writes the tail of a reply after its base packet, if there is one, and says from where and to whom the reply goes.
-/// Most datagrams have no tail.
+/// Writes the tail of a reply after its base packet, if there is one, and says whether the integrity of the request's
+/// tail hasn't failed. Most datagrams have no tail.
 #[inline(always)]
 pub fn write_tail_after(
     mode: Mode,
     config: &KeyedConfig,
     number: u32,
+    plan: &Plan,
     sequence: u32,
     at: usize,
-    datagram: &Datagram,
+    input: &[u8],
     out: &mut [u8],
-) -> Ends
+) -> bool
     requires base { 4 ≤ at }
-    requires tail { at ≤ length datagram.now.octets.now }
-    requires locals { length datagram.now.locals.now ≤ 16 }
-    requires room { length datagram.now.octets.now ≤ length out.old }
-    ensures octets { WritesTail mode config.now (record { n = number; plan = plan_after at config.now (arrived datagram.now) }) sequence at datagram.now.octets.now out.old out.new }
-    ensures ends { result ≡ ends_after at mode config.now (arrived datagram.now) }
+    requires tail { at ≤ length input.now }
+    requires room { length input.now ≤ length out.old }
+    ensures octets { WritesTail mode config.now (record { n = number; plan = plan.now }) sequence at input.now out.old out.new }
+    ensures intact { result ≡ has_intact_tail at mode config.now input.now }
 {
-    if datagram.octets.len() > at {
-        write_tail_at(mode, config, number, sequence, at, datagram, out)
-    } else {
-        usual_ends(datagram.meta)
+    if input.len() > at {
+        return write_tail_at(mode, config, number, plan, sequence, at, input, out);
     }
+    true
 }
 
 /// Whether the integrity of the tail behind a base packet of as many octets hasn't failed.

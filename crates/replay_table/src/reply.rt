@@ -75,9 +75,11 @@ pub fn write_reflection(
     ensures { IsSent session.now (datagram_of meta.now t3 octets.now) out.old out.new result }
 {
     match session.key.mode {
-        // Most sessions are of this mode.
-        Mode::Plain => write_here(session, meta, t3, octets, out),
-        Mode::Auth | Mode::Twamp => {
+        // Most sessions are of this mode, and no tail of theirs says where its reply goes.
+        Mode::Plain if !session.reflector().may_redirect() => {
+            write_here(session, meta, t3, octets, out)
+        }
+        Mode::Plain | Mode::Auth | Mode::Twamp => {
             write_apart(session, meta.ttl, meta.arrival, t3, octets, out)
         },
     }

@@ -7,6 +7,6 @@ mod reply;
 mod rows;
 
 pub use facts::{Plan, ReplyFacts};
-pub use planning::{no_reply, plan};
+pub use planning::{may_redirect, no_reply, plan};
 pub use reply::{Acted, act, copy_tlv};
 pub use rows::is_understood;

@@ -1,9 +1,10 @@
 //! From where and to whom a reply is sent, and whether it is (RFC 9503, sections 3 and 4).
 
-ghost use Rattle.std.specs.Prelude.{◌≡◌, ℕ, ◌+◌, ◌≤◌, ◌==◌, if◌then◌else◌, length, Option, Some, None, IfSome, option_map, option_and_then, position};
+ghost use Rattle.std.specs.Prelude.{◌≡◌, ℕ, ◌+◌, ◌≤◌, ◌==◌, ◌||◌, if◌then◌else◌, length, Option, Some, None, IfSome, option_map, option_and_then, position};
 ghost use Rattle.octet_format.specs.Octets.{field};
 ghost use Rattle.refl_types.specs.Same.{same_endpoint};
 ghost use Rattle.tlv_chain.specs.Walking.{tlv_at};
+ghost use Rattle.tlv_actions.specs.Rows.{destination_node_address, return_path, is_understood};
 ghost use Rattle.tlv_actions.specs.Placed.{placed, placed_at, acted, first_of};
 ghost use Rattle.tlv_actions.specs.Planned.{address_like, is_address_like, local_with, own_local, own_address, sub_tlv, return_to, usable_path, planned, wants_none, no_reply};
 
@@ -203,17 +204,26 @@ fn planned(parts: &ConfigParts, locals: &[LocalAddr], meta: &Meta, tail: &[u8]) 
     }
 }
 
+/// Whether a tail may say from where and to whom its reply is sent.
+#[inline(always)]
+pub fn may_redirect(config: &Config) -> bool
+    ensures { result ≡ (is_understood config.now destination_node_address || is_understood config.now return_path) }
+{
+    let parts = config.as_parts();
+    is_understood(parts, DESTINATION_NODE_ADDRESS) || is_understood(parts, RETURN_PATH)
+}
+
 /// From where and to whom the reply to a datagram is sent, by the Destination Node Address and the Return Path of its
 /// tail: from the local that the one names, to the Return Address that the other names. Otherwise it goes from where
 /// the datagram arrived to its sender. `locals` are the reflector's own addresses.
-#[inline]
+#[inline(always)]
 #[tactic(auto, unfolding(crate::specs::Planned::planned))]
 pub fn plan(config: &Config, locals: &[LocalAddr], meta: &Meta, tail: &[u8]) -> Plan
     requires { length locals.now ≤ 16 }
     ensures { result ≡ planned config.now locals.now meta.now tail.now }
 {
     let parts = config.as_parts();
-    if is_understood(parts, DESTINATION_NODE_ADDRESS) || is_understood(parts, RETURN_PATH) {
+    if may_redirect(config) {
         return planned(parts, locals, meta, tail);
     }
     Plan {
@@ -249,7 +259,7 @@ fn asks_for_none(parts: &ConfigParts, tail: &[u8]) -> bool
 }
 
 /// Whether the sender wants no reply: the Return Path of the tail is a Control Code whose lowest bit is 0.
-#[inline]
+#[inline(always)]
 #[tactic(auto, unfolding(crate::specs::Planned::no_reply))]
 pub fn no_reply(config: &Config, tail: &[u8]) -> bool
     ensures { result ≡ no_reply config.now tail.now }

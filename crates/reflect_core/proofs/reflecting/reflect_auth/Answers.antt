@@ -5,21 +5,20 @@ use Rattle.refl_types.specs.Spelling.{block_octets}
 use Rattle.stamp_packet.specs.declared.fields.ReplyBase.{ReplyBase}
 use Rattle.stamp_auth.specs.Request.{auth_sender_of}
 use Rattle.stamp_auth.specs.Reply.{auth_reply}
+use Rattle.tlv_actions.specs.declared.facts.ReplyFacts.{ReplyFacts}
 use Rattle.reflect_core.specs.Tail.{tail_after}
-use Rattle.reflect_core.specs.Arrived.{Arrived}
 use Rattle.reflect_core.specs.Base.{reply_base}
-use Rattle.reflect_core.specs.Reflection.{facts_after, auth_octets}
+use Rattle.reflect_core.specs.Reflection.{auth_octets}
 use Rattle.reflect_core.proofs.Modes.{base_is, block_is}
 use Rattle.reflect_core.proofs.reflecting.reflect_auth.Goals as goal
 
 pub returns-clause-octets : goal.returns-clause-octets
-returns-clause-octets c =
+returns-clause-octets c = λ locals.
     let config = c.args.config.now in
     let draw = c.args.draw in
     let meta = c.args.meta in
     let input = c.args.input.now in
-    let d : Arrived = record { meta = meta; octets = input; locals = c.args.locals.now } in
-    let facts = facts_after 112 config draw d in
+    let facts : ReplyFacts = record { n = draw.number; plan = c.args.plan.now } in
     let old = c.args.out.now in
     let base = c.reply_base-base.result in
     let out = c.write_auth_keyed.new.out in
@@ -27,5 +26,5 @@ returns-clause-octets c =
     let written : out ≡ auth_reply (block_octets config.key) base ++ drop 112 old = c.write_auth_keyed.ensures ∙ ap (λ (b : List ℕ). auth_reply b base ++ drop 112 old) block in
     let is : base ≡ reply_base config draw meta (auth_sender_of input) = base_is c.as_parts.result.now config draw meta c.auth_sender-sender.result (auth_sender_of input) base c.reply_base-base.ensures c.as_parts.ensures.value c.auth_sender-sender.ensures in
     let s1 : Has (auth_reply (block_octets config.key) base) old out 112 = record { parts = written; len = length_written (auth_reply (block_octets config.key) base) old out 112 written (omega arith) (omega arith) } in
-    let s2 : Has (auth_octets config facts base input) old c.write_tail_after-ends.new.out (length input) = has_put (auth_reply (block_octets config.key) base) old out (tail_after 112 Auth config facts base.sequence input) c.write_tail_after-ends.new.out 112 (length input) s1 c.write_tail_after-ends.ensures.octets (omega arith) (omega arith) (omega arith) in
+    let s2 : Has (auth_octets config facts base input) old c.write_tail_after.new.out (length input) = has_put (auth_reply (block_octets config.key) base) old out (tail_after 112 Auth config facts base.sequence input) c.write_tail_after.new.out 112 (length input) s1 c.write_tail_after.ensures.octets (omega arith) (omega arith) (omega arith) in
     s2.parts ∙ ap (λ (b : ReplyBase). auth_octets config facts b input ++ drop (length input) old) is

@@ -4,16 +4,14 @@ use Rattle.std.proofs.lemmas.List.{take-append-drop, append-nil}
 use Rattle.std.proofs.Math.ListN.{drop_of_length-le}
 use Rattle.octet_format.specs.Octets.{field}
 use Rattle.tlv_actions.specs.declared.facts.ReplyFacts.{ReplyFacts}
-use Rattle.reflect_core.specs.Arrived.{arrived}
-use Rattle.reflect_core.specs.Ends.{plan_after}
 use Rattle.reflect_core.specs.Tail.{tail_reply, tail_after}
-use Rattle.reflect_core.proofs.Empty.{tail_reply-nil, ends_empty}
+use Rattle.reflect_core.proofs.Empty.{tail_reply-nil, intact_empty}
 use Rattle.reflect_core.proofs.tails.write_tail_after.Goals as goal
 
-pub returns-else-datagram-at-clause-octets : goal.returns-else-datagram-at-clause-octets
-returns-else-datagram-at-clause-octets c =
-    let input = c.args.datagram.now.octets.now in
-    let facts : ReplyFacts = record { n = c.args.number; plan = plan_after c.args.at c.args.config.now (arrived c.args.datagram.now) } in
+pub returns-clause-octets : goal.returns-clause-octets
+returns-clause-octets c =
+    let input = c.args.input.now in
+    let facts : ReplyFacts = record { n = c.args.number; plan = c.args.plan.now } in
     let out = c.args.out.now in
     let at = c.args.at in
     let same : at ≡ length input = omega arith in
@@ -27,6 +25,5 @@ returns-else-datagram-at-clause-octets c =
     ∙ ap (λ (x : List ℕ). take at out ++ x ++ drop at out) (sym empty)
     ∙ ap (λ (n : ℕ). take at out ++ tail_after at c.args.mode c.args.config.now facts c.args.sequence input ++ drop n out) same
 
-pub returns-else-datagram-at-clause-ends : goal.returns-else-datagram-at-clause-ends
-returns-else-datagram-at-clause-ends c =
-    c.usual_ends.ensures ∙ ends_empty c.args.at c.args.mode c.args.config.now (arrived c.args.datagram.now) (drop_of_length-le c.args.datagram.now.octets.now (omega arith))
+pub returns-clause-intact : goal.returns-clause-intact
+returns-clause-intact c = intact_empty c.args.at c.args.mode c.args.config.now c.args.input.now (drop_of_length-le c.args.input.now (omega arith))
