@@ -6,6 +6,8 @@ mod log;
 mod port;
 mod script_desk;
 mod script_port;
+#[cfg(test)]
+mod tests;
 
 pub use desk::{ConnKind, Desk, DeskEvent, PIECE_ROOM, Timed};
 pub use log::Log;
