@@ -31,18 +31,17 @@ fn error_estimate(parts: &ConfigParts) -> [u8; 2]
 fn sequence_of(parts: &ConfigParts, number: u32, sender: &SenderBase) -> u32
     ensures { result ≡ (if parts.now.stateful then number else sender.now.sequence) }
 {
-    if parts.stateful { number } else { sender.sequence }
+    if parts.stateful {
+        number
+    } else {
+        sender.sequence
+    }
 }
 
 /// The fields of the reply to a request.
 #[inline(always)]
 #[tactic(auto, unfolding(crate::specs::Base::reply_base))]
-pub fn reply_base(
-    parts: &ConfigParts,
-    draw: &Draw,
-    meta: &Meta,
-    sender: &SenderBase,
-) -> ReplyBase
+pub fn reply_base(parts: &ConfigParts, draw: &Draw, meta: &Meta, sender: &SenderBase) -> ReplyBase
     requires { IsConfig parts.now }
     ensures { result ≡ reply_base parts.now draw.now meta.now sender.now }
 {

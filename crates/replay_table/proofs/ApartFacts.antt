@@ -1,5 +1,5 @@
 -- No record opens a session that another one excludes.
-use Rattle.std.proofs.Common.{◌≡◌, ℕ, Bool, true, false, ◌||◌, eqb, List, [], ◌∷◌, ◌++◌, length, Option, Some, None, refl, ◌∙◌, if◌then◌else◌, inl, inr, arith}
+use Rattle.std.proofs.Common.{◌≡◌, ℕ, Bool, true, false, ◌||◌, List, [], ◌∷◌, ◌++◌, length, Option, Some, None, refl, ◌∙◌, if◌then◌else◌, inl, inr, arith}
 use Rattle.std.specs.List.{list_any}
 use Rattle.std.proofs.lemmas.Bool.Decides.{eqb_tells}
 use Rattle.refl_types.specs.declared.types.Key.{Key}
@@ -78,8 +78,8 @@ unfolding after
 one t (Opens o) apart =
     elim (eqb_tells (opening_code t o) 0) [
       | inl y ↦
-        let free = code_zero (is_bound o.key t) (has_clash o.key t) (length t) o y.1 in
-        rw y.0 (apart-push t (opened_entry o) apart (none_excludes o.key t free.0 free.1))
+          let free = code_zero (is_bound o.key t) (has_clash o.key t) (length t) o y.1 in
+          rw y.0 (apart-push t (opened_entry o) apart (none_excludes o.key t free.0 free.1))
       | inr n ↦ rw n.0 apart
     ]
 one t (Arrives d) apart = arrived (session_of t d) t d apart

@@ -41,14 +41,14 @@ pub sixteen : (a b : List ℕ) (x y u v : ℕ) → length a ≡ 16 → length b 
 sixteen a b x y u v la lb ba bb ex ey eu ev =
     decides (eqb x y && eqb u v) a b
     (λ e.
-        let p = both_true (eqb x y) (eqb u v) e in
-        let front = half 0 a b x y (omega (arith, la)) (omega (arith, lb)) ba bb ex ey (eqb-true x y p.0) in
-        let back = half 8 a b u v (omega (arith, la)) (omega (arith, lb)) ba bb eu ev (eqb-true u v p.1) in
-        halves a la ∙ ap (λ (z : List ℕ). z ++ (field 8 8 a ++ [])) front ∙ ap (λ (z : List ℕ). field 0 8 b ++ (z ++ [])) back ∙ sym (halves b lb))
+    let p = both_true (eqb x y) (eqb u v) e in
+    let front = half 0 a b x y (omega (arith, la)) (omega (arith, lb)) ba bb ex ey (eqb-true x y p.0) in
+    let back = half 8 a b u v (omega (arith, la)) (omega (arith, lb)) ba bb eu ev (eqb-true u v p.1) in
+    halves a la ∙ ap (λ (z : List ℕ). z ++ (field 8 8 a ++ [])) front ∙ ap (λ (z : List ℕ). field 0 8 b ++ (z ++ [])) back ∙ sym (halves b lb))
     (λ e.
-        let front : x ≡ y = ex ∙ ap (λ (z : List ℕ). from_be_bytes w64 (field 0 8 z)) e ∙ sym ey in
-        let back : u ≡ v = eu ∙ ap (λ (z : List ℕ). from_be_bytes w64 (field 8 8 z)) e ∙ sym ev in
-        rw (front, back) (both (eqb-same y) (eqb-same v)))
+    let front : x ≡ y = ex ∙ ap (λ (z : List ℕ). from_be_bytes w64 (field 0 8 z)) e ∙ sym ey in
+    let back : u ≡ v = eu ∙ ap (λ (z : List ℕ). from_be_bytes w64 (field 8 8 z)) e ∙ sym ev in
+    rw (front, back) (both (eqb-same y) (eqb-same v)))
   where
     both : {p q : Bool} → p ≡ true → q ≡ true → (p && q) ≡ true
     both e f = rw (e, f) refl
@@ -58,7 +58,7 @@ sixteen a b x y u v la lb ba bb ex ey eu ev =
 pub front_same : (x y : ℕ) (t s : Bool) → (eqb x y && t) ≡ s → x ≡ y → t ≡ s
 front_same x y t s e h = ap (λ (b : Bool). b && t) (sym (subst (λ (n : ℕ). eqb x n ≡ true) h (eqb-same x))) ∙ e
 
-is_not : (x y : ℕ) → (x ≡ y → ⊥) → eqb x y ≡ false
+pub is_not : (x y : ℕ) → (x ≡ y → ⊥) → eqb x y ≡ false
 is_not x y ne =
     elim (eqb_tells x y) [
       | inl p ↦ absurd (ne p.1)

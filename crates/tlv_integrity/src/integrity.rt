@@ -93,12 +93,7 @@ pub fn check(mode: Mode, config: &Config, sequence: &[u8; 4], tail: &[u8]) -> In
 
 /// The same, where the blocks of the key are hashed.
 #[inline(always)]
-pub fn check_keyed(
-    mode: Mode,
-    config: &KeyedConfig,
-    sequence: &[u8; 4],
-    tail: &[u8],
-) -> Integrity
+pub fn check_keyed(mode: Mode, config: &KeyedConfig, sequence: &[u8; 4], tail: &[u8]) -> Integrity
     ensures value { result ≡ integrity mode config.now sequence.now tail.now }
     ensures place { IsPlaced result config.now (length tail.now) }
 {
