@@ -21,7 +21,7 @@ use replay_format::{
     BAD_HMAC, DUPLICATE, FULL, MODE_CLASH, NO_KEY, NO_REPLY, NO_SESSION, OPENED, Outcome, Record,
     SHORT, write_outcome,
 };
-use session_key::Query;
+use session_key::Arrival;
 use std::alloc::Global;
 use std::marker::Model;
 
@@ -80,9 +80,9 @@ fn has_clash(list: &[Session], key: &Key) -> bool
 fn place_of(list: &[Session], meta: &Meta, octets: &[u8]) -> Option<usize>
     ensures { result ≡ position (λ s. matches (query_of meta.now.local meta.now.peer octets.now) s.key) list.now }
 {
-    let query = Query::of(meta, octets);
+    let arrival = Arrival::of(meta, octets);
     for place in 0..list.len() {
-        if query.matches(&list[place].key) {
+        if arrival.matches(&list[place].key) {
             return Some(place);
         }
     }

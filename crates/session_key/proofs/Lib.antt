@@ -2,3 +2,4 @@ pub mod MatchLaws
 pub mod WordLaws
 pub mod PlaceLaws
 pub mod AddressFacts
+pub mod ArrivalFacts
