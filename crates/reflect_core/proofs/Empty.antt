@@ -5,12 +5,12 @@ use Rattle.refl_types.specs.declared.types.Mode.{Mode}
 use Rattle.refl_types.specs.declared.types.Mode.TheVariants.{Plain, Auth, Twamp}
 use Rattle.refl_types.specs.declared.config.ConfigParts.{ConfigParts}
 use Rattle.tlv_actions.specs.declared.facts.Plan.{Plan}
-use Rattle.tlv_actions.specs.declared.facts.ReplyFacts.{ReplyFacts}
 use Rattle.tlv_chain.specs.Split.{Split, split}
 use Rattle.tlv_chain.proofs.SplitFacts.{split_none, no_whole}
 use Rattle.tlv_integrity.specs.declared.integrity.Integrity.{Integrity}
 use Rattle.tlv_integrity.specs.declared.integrity.Integrity.TheVariants.{Absent}
 use Rattle.tlv_integrity.specs.Integrity.{integrity, integrity_under, integrity_of}
+use Rattle.tlv_actions.specs.Rows.{Facts}
 use Rattle.reflect_core.specs.Ends.{is_intact, has_intact_tail}
 use Rattle.reflect_core.specs.Tail.{reply_by, tail_reply}
 
@@ -30,15 +30,15 @@ pub integrity_empty : (mode : Mode) (c : ConfigParts) (sequence : List ℕ) → 
 unfolding integrity
 integrity_empty mode c sequence = under_empty mode c.key sequence
 
-pub tail_reply-nil : (mode : Mode) (c : ConfigParts) (facts : ReplyFacts) (asked answered : List ℕ) → tail_reply mode c facts asked answered [] ≡ []
+pub tail_reply-nil : (mode : Mode) (c : ConfigParts) (facts : Facts) (asked answered : List ℕ) → tail_reply mode c facts asked answered [] ≡ []
 unfolding tail_reply
 tail_reply-nil mode c facts asked answered =
     ap (λ (i : Integrity). reply_by i c facts answered (split [])) (integrity_empty mode c asked) ∙ ap (λ (s : Split). reply_by Absent c facts answered s) split_empty
 
-abbrev pub facts_of : ℕ → Plan → ReplyFacts
+abbrev pub facts_of : ℕ → Plan → Facts
 facts_of n plan = record { n = n; plan = plan }
 
-pub tail_by : (mode : Mode) (c : ConfigParts) (facts : ReplyFacts) (asked answered tail : List ℕ) (i : Integrity) → i ≡ integrity mode c asked tail → reply_by i c facts answered (split tail) ≡ tail_reply mode c facts asked answered tail
+pub tail_by : (mode : Mode) (c : ConfigParts) (facts : Facts) (asked answered tail : List ℕ) (i : Integrity) → i ≡ integrity mode c asked tail → reply_by i c facts answered (split tail) ≡ tail_reply mode c facts asked answered tail
 unfolding tail_reply
 tail_by mode c facts asked answered tail i e = ap (λ (j : Integrity). reply_by j c facts answered (split tail)) e
 

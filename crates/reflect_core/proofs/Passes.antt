@@ -11,10 +11,9 @@ use Rattle.tlv_chain.specs.Walking.{Walking, IsAtRest, WentPast, tlv_at}
 use Rattle.tlv_chain.proofs.SplitFacts.{split_is}
 use Rattle.tlv_chain.proofs.Walks.{step_of, rest_of, past, length-value_at}
 use Rattle.tlv_actions.specs.declared.facts.Plan.{Plan}
-use Rattle.tlv_actions.specs.declared.facts.ReplyFacts.{ReplyFacts}
 use Rattle.tlv_actions.specs.declared.reply.Acted.{Acted}
 use Rattle.tlv_actions.specs.declared.reply.Acted.TheVariants.{Done, Malformed}
-use Rattle.tlv_actions.specs.Rows.{WritesTlv, HoldsTlv, reply_tlv, is_malformed_at, acted_on}
+use Rattle.tlv_actions.specs.Rows.{Facts, WritesTlv, HoldsTlv, reply_tlv, is_malformed_at, acted_on}
 use Rattle.reflect_core.specs.Tail.{failed_reply, flagged, processed_from}
 
 -- the reply of a split from a place on is whole
@@ -86,13 +85,13 @@ flags_first tail s rest = append_assoc (tlv_octets (flagged (tlv_at tail s))) _ 
 abbrev pub failed_from : ℕ → Split → List ℕ
 failed_from at s = failed_reply s
 
-goes_first : (c : ConfigParts) (facts : ReplyFacts) (at to : ℕ) (t : Tlv) (rest : Split) → at + 4 + length t.value ≡ to → is_malformed_at c facts.plan at t ≡ false → processed_from c facts at (add_first t rest) ≡ tlv_octets (reply_tlv c facts at t) ++ processed_from c facts to rest
+goes_first : (c : ConfigParts) (facts : Facts) (at to : ℕ) (t : Tlv) (rest : Split) → at + 4 + length t.value ≡ to → is_malformed_at c facts.plan at t ≡ false → processed_from c facts at (add_first t rest) ≡ tlv_octets (reply_tlv c facts at t) ++ processed_from c facts to rest
 goes_first c facts at to t rest same e = rw e (ap (λ (n : ℕ). tlv_octets (reply_tlv c facts at t) ++ processed_from c facts n rest) same)
 
-pub processes_first : (c : ConfigParts) (facts : ReplyFacts) (tail : List ℕ) (s : Span) (rest : Split) → past s ≤ length tail → is_malformed_at c facts.plan s.at (tlv_at tail s) ≡ false → processed_from c facts s.at (add_first (tlv_at tail s) rest) ≡ tlv_octets (reply_tlv c facts s.at (tlv_at tail s)) ++ processed_from c facts (past s) rest
+pub processes_first : (c : ConfigParts) (facts : Facts) (tail : List ℕ) (s : Span) (rest : Split) → past s ≤ length tail → is_malformed_at c facts.plan s.at (tlv_at tail s) ≡ false → processed_from c facts s.at (add_first (tlv_at tail s) rest) ≡ tlv_octets (reply_tlv c facts s.at (tlv_at tail s)) ++ processed_from c facts (past s) rest
 processes_first c facts tail s rest le e = goes_first c facts s.at (past s) (tlv_at tail s) rest (ap (λ (n : ℕ). s.at + 4 + n) (length-value_at tail s le)) e
 
-pub stops_first : (c : ConfigParts) (facts : ReplyFacts) (at : ℕ) (t : Tlv) (rest : Split) → is_malformed_at c facts.plan at t ≡ true → processed_from c facts at (add_first t rest) ≡ tlv_octets (reply_tlv c facts at t) ++ (tlvs_octets rest.tlvs ++ rest.rest)
+pub stops_first : (c : ConfigParts) (facts : Facts) (at : ℕ) (t : Tlv) (rest : Split) → is_malformed_at c facts.plan at t ≡ true → processed_from c facts at (add_first t rest) ≡ tlv_octets (reply_tlv c facts at t) ++ (tlvs_octets rest.tlvs ++ rest.rest)
 stops_first c facts at t rest e = rw e refl
 
 malformed_if : (b : Bool) → (if b then Malformed else Done) ≡ Malformed → b ≡ true

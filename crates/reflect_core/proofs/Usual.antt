@@ -15,8 +15,7 @@ use Rattle.stamp_auth.specs.Reply.{auth_reply}
 use Rattle.tlv_chain.specs.Tlv.{Tlv, tlv_octets, tlvs_octets}
 use Rattle.tlv_chain.specs.Split.{Split, split}
 use Rattle.tlv_actions.specs.declared.facts.Plan.{Plan}
-use Rattle.tlv_actions.specs.declared.facts.ReplyFacts.{ReplyFacts}
-use Rattle.tlv_actions.specs.Rows.{is_understood, is_malformed_at, reply_tlv}
+use Rattle.tlv_actions.specs.Rows.{Facts, is_understood, is_malformed_at, reply_tlv}
 use Rattle.tlv_actions.specs.Planned.{no_reply}
 use Rattle.tlv_actions.proofs.Plans.{usual_plan, planned_usual, with_ends, reply_tlv-ends, no_reply_usual}
 use Rattle.tlv_integrity.specs.declared.integrity.Integrity.{Integrity}
@@ -37,10 +36,10 @@ use Rattle.reflect_core.specs.Reflection.{plain_reflection, auth_reflection}
 -- ---- the TLVs of a reply don't tell its ends
 
 module _ (c : ConfigParts) (n from : ℕ) (to : Endpoint) (p : Plan) where
-  abbrev other : ReplyFacts
+  abbrev other : Facts
   other = record { n = n; plan = with_ends from to p }
 
-  abbrev facts : ReplyFacts
+  abbrev facts : Facts
   facts = record { n = n; plan = p }
 
   processed-ends : (at : ℕ) (ts : List Tlv) (rest : List ℕ) → processed c other at ts rest ≡ processed c facts at ts rest

@@ -14,7 +14,7 @@ use Rattle.stamp_auth.specs.Reply.{auth_reply}
 use Rattle.twamp_test.specs.Request.{test_sender_of}
 use Rattle.twamp_test.specs.Reply.{test_reply}
 use Rattle.tlv_actions.specs.declared.facts.Plan.{Plan}
-use Rattle.tlv_actions.specs.declared.facts.ReplyFacts.{ReplyFacts}
+use Rattle.tlv_actions.specs.Rows.{Facts}
 use Rattle.reflect_core.specs.declared.session.Draw.{Draw}
 use Rattle.reflect_core.specs.declared.reflecting.Reply.{Reply}
 use Rattle.reflect_core.specs.Arrived.{Arrived}
@@ -24,10 +24,10 @@ use Rattle.reflect_core.specs.Tail.{tail_after}
 
 -- ---- the octets, from the fields of the base packet
 
-abbrev pub plain_octets : ConfigParts → ReplyFacts → ReplyBase → List ℕ → List ℕ
+abbrev pub plain_octets : ConfigParts → Facts → ReplyBase → List ℕ → List ℕ
 plain_octets c facts base octets = plain_reply base ++ tail_after 44 Plain c facts base.sequence octets
 
-abbrev pub auth_octets : ConfigParts → ReplyFacts → ReplyBase → List ℕ → List ℕ
+abbrev pub auth_octets : ConfigParts → Facts → ReplyBase → List ℕ → List ℕ
 auth_octets c facts base octets = auth_reply (block_octets c.key) base ++ tail_after 112 Auth c facts base.sequence octets
 
 -- under a plan

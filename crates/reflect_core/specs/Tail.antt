@@ -8,8 +8,7 @@ use Rattle.refl_types.specs.declared.config.ConfigParts.{ConfigParts}
 use Rattle.refl_types.specs.Spelling.{block_octets}
 use Rattle.tlv_chain.specs.Tlv.{Tlv, tlv_octets, tlvs_octets, unrecognized, malformed, integrity_failed}
 use Rattle.tlv_chain.specs.Split.{Split, split}
-use Rattle.tlv_actions.specs.declared.facts.ReplyFacts.{ReplyFacts}
-use Rattle.tlv_actions.specs.Rows.{is_understood, is_malformed_at, reply_tlv}
+use Rattle.tlv_actions.specs.Rows.{Facts, is_understood, is_malformed_at, reply_tlv}
 use Rattle.tlv_integrity.specs.declared.integrity.Integrity.{Integrity}
 use Rattle.tlv_integrity.specs.declared.integrity.Integrity.TheVariants.{Absent, Passed, Failed}
 use Rattle.tlv_integrity.specs.Integrity.{integrity}
@@ -38,34 +37,34 @@ abbrev pub rest_flags : ConfigParts → List ℕ → ℕ
 rest_flags c rest = if is_understood c (get_or rest 1 0) then malformed else bit_or malformed unrecognized
 
 -- those that stand from a place on
-abbrev pub processed : ConfigParts → ReplyFacts → ℕ → List Tlv → List ℕ → List ℕ
+abbrev pub processed : ConfigParts → Facts → ℕ → List Tlv → List ℕ → List ℕ
 processed c facts at [] rest = with_flags (rest_flags c rest) rest
 processed c facts at (t ∷ ts) rest =
     tlv_octets (reply_tlv c facts at t)
     ++ (if is_malformed_at c facts.plan at t then tlvs_octets ts ++ rest else processed c facts (at + 4 + length t.value) ts rest)
 
-abbrev pub processed_from : ConfigParts → ReplyFacts → ℕ → Split → List ℕ
+abbrev pub processed_from : ConfigParts → Facts → ℕ → Split → List ℕ
 processed_from c facts at s = processed c facts at s.tlvs s.rest
 
-abbrev pub processed_reply : ConfigParts → ReplyFacts → Split → List ℕ
+abbrev pub processed_reply : ConfigParts → Facts → Split → List ℕ
 processed_reply c facts s = processed_from c facts 0 s
 
 -- ---- the tail of a reply
 
-abbrev pub reply_by : Integrity → ConfigParts → ReplyFacts → List ℕ → Split → List ℕ
+abbrev pub reply_by : Integrity → ConfigParts → Facts → List ℕ → Split → List ℕ
 reply_by Failed c facts answered s = failed_reply s
 reply_by Absent c facts answered s = processed_reply c facts s
 reply_by (Passed at) c facts answered s = sealed (block_octets c.key) answered at (processed_reply c facts s)
 
 -- asked and answered are the octets of the Sequence Numbers of the request and of the reply
-unfoldable pub tail_reply : Mode → ConfigParts → ReplyFacts → List ℕ → List ℕ → List ℕ → List ℕ
+unfoldable pub tail_reply : Mode → ConfigParts → Facts → List ℕ → List ℕ → List ℕ → List ℕ
 tail_reply mode c facts asked answered tail = reply_by (integrity mode c asked tail) c facts answered (split tail)
 
 -- the tail of the reply to a datagram whose base packet has as many octets, with a Sequence Number of the reply
-abbrev pub tail_after : ℕ → Mode → ConfigParts → ReplyFacts → ℕ → List ℕ → List ℕ
+abbrev pub tail_after : ℕ → Mode → ConfigParts → Facts → ℕ → List ℕ → List ℕ
 tail_after len mode c facts sequence octets = tail_reply mode c facts (field 0 4 octets) (to_be_bytes w32 sequence) (drop len octets)
 
 -- it stands in a buffer after as many octets, and all others are as before
-abbrev pub WritesTail : Mode → ConfigParts → ReplyFacts → ℕ → ℕ → List ℕ → List ℕ → List ℕ → Type 0
+abbrev pub WritesTail : Mode → ConfigParts → Facts → ℕ → ℕ → List ℕ → List ℕ → List ℕ → Type 0
 WritesTail mode c facts sequence len octets old new =
     new ≡ take len old ++ tail_after len mode c facts sequence octets ++ drop (length octets) old

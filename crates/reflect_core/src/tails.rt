@@ -87,10 +87,7 @@ fn process(config: &KeyedConfig, number: u32, plan: &Plan, tail: &[u8], out: &mu
     requires { length out.old ≡ length tail.now }
     ensures { out.new ≡ processed_reply config.now (record { n = number; plan = plan.now }) (split tail.now) }
 {
-    let facts = ReplyFacts {
-        n: number,
-        plan: *plan,
-    };
+    let facts = ReplyFacts { n: number, plan };
     put_last(tail, 0, out);
     let mut walk = Walk::new(tail);
     while let Some(span) = walk.next() {

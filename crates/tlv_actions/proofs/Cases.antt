@@ -5,19 +5,18 @@ use Rattle.std.proofs.lemmas.Bool.Decides.{eqb_tells}
 use Rattle.refl_types.specs.declared.config.ConfigParts.{ConfigParts}
 use Rattle.tlv_chain.specs.Tlv.{Tlv, unrecognized, malformed}
 use Rattle.tlv_actions.specs.declared.facts.Plan.{Plan}
-use Rattle.tlv_actions.specs.declared.facts.ReplyFacts.{ReplyFacts}
 use Rattle.tlv_actions.specs.declared.reply.Acted.TheVariants.{Done, Malformed}
-use Rattle.tlv_actions.specs.Rows.{is_understood, has_valid_length, is_at, is_malformed, is_malformed_at, measured, flags_at, reply_value, reply_tlv, acted_on}
+use Rattle.tlv_actions.specs.Rows.{Facts, is_understood, has_valid_length, is_at, is_malformed, is_malformed_at, measured, flags_at, reply_value, reply_tlv, acted_on}
 
-pub reply_unknown : (c : ConfigParts) (f : ReplyFacts) (at : ℕ) (t : Tlv) → is_understood c t.kind ≡ false → (let u : Tlv = record t { flags = unrecognized } in u) ≡ reply_tlv c f at t
+pub reply_unknown : (c : ConfigParts) (f : Facts) (at : ℕ) (t : Tlv) → is_understood c t.kind ≡ false → (let u : Tlv = record t { flags = unrecognized } in u) ≡ reply_tlv c f at t
 unfolding reply_tlv
 reply_unknown c f at t e = rw e refl
 
-pub reply_bad : (c : ConfigParts) (f : ReplyFacts) (at : ℕ) (t : Tlv) → is_understood c t.kind ≡ true → is_malformed_at c f.plan at t ≡ true → (let u : Tlv = record t { flags = malformed } in u) ≡ reply_tlv c f at t
+pub reply_bad : (c : ConfigParts) (f : Facts) (at : ℕ) (t : Tlv) → is_understood c t.kind ≡ true → is_malformed_at c f.plan at t ≡ true → (let u : Tlv = record t { flags = malformed } in u) ≡ reply_tlv c f at t
 unfolding reply_tlv
 reply_bad c f at t e m = rw (e, m) refl
 
-pub reply_good : (c : ConfigParts) (f : ReplyFacts) (at : ℕ) (t : Tlv) (flags : ℕ) (value : List ℕ) → is_understood c t.kind ≡ true → is_malformed_at c f.plan at t ≡ false → flags ≡ flags_at f.plan at t.kind → value ≡ reply_value c f.n t → (let u : Tlv = record { flags = flags; kind = t.kind; value = value } in u) ≡ reply_tlv c f at t
+pub reply_good : (c : ConfigParts) (f : Facts) (at : ℕ) (t : Tlv) (flags : ℕ) (value : List ℕ) → is_understood c t.kind ≡ true → is_malformed_at c f.plan at t ≡ false → flags ≡ flags_at f.plan at t.kind → value ≡ reply_value c f.n t → (let u : Tlv = record { flags = flags; kind = t.kind; value = value } in u) ≡ reply_tlv c f at t
 unfolding reply_tlv
 reply_good c f at t flags value e m g v =
     rw (e, m) (ap (λ (x : ℕ). let u : Tlv = record { flags = x; kind = t.kind; value = value } in u) g ∙ ap (λ (x : List ℕ). let u : Tlv = record { flags = flags_at f.plan at t.kind; kind = t.kind; value = x } in u) v)

@@ -8,7 +8,7 @@ use Rattle.refl_types.specs.Configs.{supports, may_be_supported}
 use Rattle.tlv_chain.specs.declared.span.Span.{Span}
 use Rattle.tlv_chain.specs.Tlv.{Tlv, tlv_octets, unrecognized, malformed}
 use Rattle.tlv_actions.specs.declared.facts.Plan.{Plan}
-use Rattle.tlv_actions.specs.declared.facts.ReplyFacts.{ReplyFacts}
+use Rattle.tlv_actions.specs.declared.facts.ReplyFacts as told
 use Rattle.tlv_actions.specs.declared.reply.Acted.{Acted}
 use Rattle.tlv_actions.specs.declared.reply.Acted.TheVariants.{Done, Malformed}
 
@@ -66,6 +66,14 @@ reply_value c n t =
 
 -- ---- the reply of the TLV at a place
 
+-- what is told of a reply besides its configuration: the number that was drawn, and the plan
+pub record Facts : Type 0 where
+  pub n : ℕ
+  pub plan : Plan
+
+abbrev pub facts_of : told.ReplyFacts → Facts
+facts_of f = record { n = f.n; plan = f.plan.now }
+
 abbrev pub is_at : Option ℕ → ℕ → Bool
 is_at None at = false
 is_at (Some place) at = place == at
@@ -81,7 +89,7 @@ flags_at plan at kind =
 abbrev pub is_malformed_at : ConfigParts → Plan → ℕ → Tlv → Bool
 is_malformed_at c plan at t = is_malformed c (is_at plan.nine at) t.kind (length t.value)
 
-unfoldable pub reply_tlv : ConfigParts → ReplyFacts → ℕ → Tlv → Tlv
+unfoldable pub reply_tlv : ConfigParts → Facts → ℕ → Tlv → Tlv
 reply_tlv c facts at t =
     if not (is_understood c t.kind) then record t { flags = unrecognized }
     else (if is_malformed_at c facts.plan at t then record t { flags = malformed }

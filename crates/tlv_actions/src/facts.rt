@@ -18,10 +18,10 @@ pub struct Plan {
 }
 
 /// What is told of a reply besides its configuration.
-#[derive(Clone, Copy, Debug, PartialEq, Eq)]
-pub struct ReplyFacts {
+#[derive(Clone, Copy, Debug)]
+pub struct ReplyFacts<'a> {
     /// The number that was drawn, modulo 2^32: how many replies were sent before.
     pub n: u32,
     /// From where and to whom it is sent.
-    pub plan: Plan,
+    pub plan: &'a Plan,
 }

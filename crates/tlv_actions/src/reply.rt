@@ -2,7 +2,7 @@
 
 ghost use Rattle.std.specs.Prelude.{◌≡◌, ◌+◌, ◌≤◌, length};
 ghost use Rattle.tlv_chain.specs.Walking.{tlv_at};
-ghost use Rattle.tlv_actions.specs.Rows.{WritesTlv, HoldsTlv, tlv_of, reply_tlv, acted_on};
+ghost use Rattle.tlv_actions.specs.Rows.{WritesTlv, HoldsTlv, facts_of, tlv_of, reply_tlv, acted_on};
 
 use crate::facts::ReplyFacts;
 use crate::rows::{
@@ -62,8 +62,8 @@ fn answer(
     requires len { length value.now ≡ span.now.len }
     requires room { span.now.at + 4 + span.now.len ≤ length out.old }
     requires holds { HoldsTlv out.old span.now (tlv_of span.now value.now) }
-    ensures octets { WritesTlv out.old span.now (reply_tlv parts.now facts.now span.now.at (tlv_of span.now value.now)) out.new }
-    ensures acted { result ≡ acted_on parts.now facts.now.plan span.now.at (tlv_of span.now value.now) }
+    ensures octets { WritesTlv out.old span.now (reply_tlv parts.now (facts_of facts.now) span.now.at (tlv_of span.now value.now)) out.new }
+    ensures acted { result ≡ acted_on parts.now facts.now.plan.now span.now.at (tlv_of span.now value.now) }
 {
     if !is_understood(parts, span.kind) {
         write_flags(span, UNRECOGNIZED, value, out);
@@ -76,7 +76,7 @@ fn answer(
     match span.kind {
         TIMESTAMP_INFORMATION => write(span, 0, &parts.info, out),
         DIRECT_MEASUREMENT => write(span, 0, &measured(facts.n, &field4(value, 0)), out),
-        kind => write_flags(span, flags_at(&facts.plan, span.at, kind), value, out),
+        kind => write_flags(span, flags_at(facts.plan, span.at, kind), value, out),
     }
     Acted::Done
 }
@@ -100,8 +100,8 @@ pub fn act(config: &Config, facts: &ReplyFacts, tail: &[u8], span: &Span, out: &
     requires whole { span.now.at + 4 + span.now.len ≤ length tail.now }
     requires room { length out.old ≡ length tail.now }
     requires holds { HoldsTlv out.old span.now (tlv_at tail.now span.now) }
-    ensures octets { WritesTlv out.old span.now (reply_tlv config.now facts.now span.now.at (tlv_at tail.now span.now)) out.new }
-    ensures acted { result ≡ acted_on config.now facts.now.plan span.now.at (tlv_at tail.now span.now) }
+    ensures octets { WritesTlv out.old span.now (reply_tlv config.now (facts_of facts.now) span.now.at (tlv_at tail.now span.now)) out.new }
+    ensures acted { result ≡ acted_on config.now facts.now.plan.now span.now.at (tlv_at tail.now span.now) }
 {
     let (_, from_value) = tail.split_at(span.at + HEADER_LEN);
     let (value, _) = from_value.split_at(usize::from(span.len));

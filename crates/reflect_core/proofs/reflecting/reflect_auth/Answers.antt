@@ -5,7 +5,7 @@ use Rattle.refl_types.specs.Spelling.{block_octets}
 use Rattle.stamp_packet.specs.declared.fields.ReplyBase.{ReplyBase}
 use Rattle.stamp_auth.specs.Request.{auth_sender_of}
 use Rattle.stamp_auth.specs.Reply.{auth_reply}
-use Rattle.tlv_actions.specs.declared.facts.ReplyFacts.{ReplyFacts}
+use Rattle.tlv_actions.specs.Rows.{Facts}
 use Rattle.reflect_core.specs.Tail.{tail_after}
 use Rattle.reflect_core.specs.Base.{reply_base}
 use Rattle.reflect_core.specs.Reflection.{auth_octets}
@@ -18,7 +18,7 @@ returns-clause-octets c = λ locals.
     let draw = c.args.draw in
     let meta = c.args.meta in
     let input = c.args.input.now in
-    let facts : ReplyFacts = record { n = draw.number; plan = c.args.plan.now } in
+    let facts : Facts = record { n = draw.number; plan = c.args.plan.now } in
     let old = c.args.out.now in
     let base = c.reply_base-base.result in
     let out = c.write_auth_keyed.new.out in

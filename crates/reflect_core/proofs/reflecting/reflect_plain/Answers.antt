@@ -3,7 +3,7 @@ use Rattle.octet_format.proofs.Fields.{Has, has_put, length_written}
 use Rattle.refl_types.specs.declared.types.Mode.TheVariants.{Plain}
 use Rattle.stamp_packet.specs.declared.fields.ReplyBase.{ReplyBase}
 use Rattle.stamp_packet.specs.Plain.{plain_reply, sender_of}
-use Rattle.tlv_actions.specs.declared.facts.ReplyFacts.{ReplyFacts}
+use Rattle.tlv_actions.specs.Rows.{Facts}
 use Rattle.reflect_core.specs.Tail.{tail_after}
 use Rattle.reflect_core.specs.Base.{reply_base}
 use Rattle.reflect_core.specs.Reflection.{plain_octets}
@@ -23,7 +23,7 @@ returns-clause-octets c =
     let config = c.args.config.now in
     let draw = c.args.draw.now in
     let d = c.args.datagram.now in
-    let facts : ReplyFacts = record { n = draw.number; plan = c.args.plan.now } in
+    let facts : Facts = record { n = draw.number; plan = c.args.plan.now } in
     let input = d.octets.now in
     let old = c.args.out.now in
     let base = c.reply_base-base.result in

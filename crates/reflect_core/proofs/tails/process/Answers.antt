@@ -3,8 +3,7 @@ use Rattle.std.proofs.lemmas.List.{take-append-drop}
 use Rattle.refl_types.specs.declared.config.ConfigParts.{ConfigParts}
 use Rattle.tlv_chain.specs.Walking.{tlv_at}
 use Rattle.tlv_chain.proofs.Walks.{past, step_of}
-use Rattle.tlv_actions.specs.declared.facts.ReplyFacts.{ReplyFacts}
-use Rattle.tlv_actions.specs.Rows.{WritesTlv, reply_tlv, acted_on}
+use Rattle.tlv_actions.specs.Rows.{Facts, WritesTlv, reply_tlv, acted_on}
 use Rattle.reflect_core.specs.Tail.{processed_from}
 use Rattle.reflect_core.proofs.Passes.{stopped, stops_first, processes_first, malformed_is, done_is, holds_over, behind_over, goes_over}
 use Rattle.reflect_core.proofs.tails.process.Goals as goal
@@ -16,7 +15,7 @@ act-requires-clause-holds c =
 pub returns-in-Malformed : goal.returns-in-Malformed
 returns-in-Malformed c =
     let config = c.args.config.now in
-    let facts : ReplyFacts = record { n = c.args.number; plan = c.args.plan.now } in
+    let facts : Facts = record { n = c.args.number; plan = c.args.plan.now } in
     let tail = c.args.tail.now in
     let s = c.in-Some.span in
     let before = c.loop-span.out in
@@ -31,7 +30,7 @@ returns-in-Malformed c =
 pub loop-span-preserved : goal.loop-span-preserved
 loop-span-preserved c =
     let config = c.args.config.now in
-    let facts : ReplyFacts = record { n = c.args.number; plan = c.args.plan.now } in
+    let facts : Facts = record { n = c.args.number; plan = c.args.plan.now } in
     let tail = c.args.tail.now in
     let s = c.in-Some.span in
     let before = c.loop-span.out in

@@ -3,7 +3,7 @@ use Rattle.std.specs.Int.{w32, to_be_bytes}
 use Rattle.std.proofs.lemmas.List.{take-append-drop, append-nil}
 use Rattle.std.proofs.Math.ListN.{drop_of_length-le}
 use Rattle.octet_format.specs.Octets.{field}
-use Rattle.tlv_actions.specs.declared.facts.ReplyFacts.{ReplyFacts}
+use Rattle.tlv_actions.specs.Rows.{Facts}
 use Rattle.reflect_core.specs.Tail.{tail_reply, tail_after}
 use Rattle.reflect_core.proofs.Empty.{tail_reply-nil, intact_empty}
 use Rattle.reflect_core.proofs.tails.write_tail_after.Goals as goal
@@ -11,7 +11,7 @@ use Rattle.reflect_core.proofs.tails.write_tail_after.Goals as goal
 pub returns-clause-octets : goal.returns-clause-octets
 returns-clause-octets c =
     let input = c.args.input.now in
-    let facts : ReplyFacts = record { n = c.args.number; plan = c.args.plan.now } in
+    let facts : Facts = record { n = c.args.number; plan = c.args.plan.now } in
     let out = c.args.out.now in
     let at = c.args.at in
     let same : at ≡ length input = omega arith in
