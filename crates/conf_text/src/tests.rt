@@ -12,7 +12,7 @@ fn told(alloc: Global, text: &str) -> Result<String, AllocError> {
         Err(ConfFault::NotToml) => String::from_str(alloc, "not toml"),
         Err(ConfFault::Unknown(path)) => format!(in alloc; "unknown {path}"),
         Err(ConfFault::Missing(path)) => format!(in alloc; "missing {path}"),
-        Err(ConfFault::BadValue(path)) => format!(in alloc; "bad value {path}"),
+        Err(ConfFault::BadValue(path)) => format!(in alloc; "bad {path}"),
         Err(ConfFault::Limit(path)) => format!(in alloc; "limit {path}"),
     }
 }
@@ -33,16 +33,16 @@ fn the_root_is_told_first(rt: HostRuntime) -> Result<(), Fail> {
         ("zeta = 1\nalpha = 1", "unknown alpha"),
         ("\"a.b\" = 1", "unknown a.b"),
         ("\"\" = 1", "unknown "),
-        ("locals = 3\n[configs]", "bad value locals"),
+        ("locals = 3\n[configs]", "bad locals"),
         ("locals = []\n[configs]", "limit locals"),
-        ("locals = [3]\n[configs]", "bad value locals.0"),
+        ("locals = [3]\n[configs]", "bad locals.0"),
         (
             "locals = [\"192.0.2.1:0\"]\n[configs]",
-            "bad value locals.0",
+            "bad locals.0",
         ),
         (
             "locals = [\"192.0.2.1:1\", \"192.0.2.1:2\", \"192.0.2.1:1\"]\n[configs]",
-            "bad value locals.2",
+            "bad locals.2",
         ),
         (
             "locals = [1,2,3,4,5,6,7,8,9,10,11,12,13,14,15,16,17]\n[configs]",
@@ -50,20 +50,20 @@ fn the_root_is_told_first(rt: HostRuntime) -> Result<(), Fail> {
         ),
         (
             "configs = 3\nlocals = [\"192.0.2.1:1\"]",
-            "bad value configs",
+            "bad configs",
         ),
         ("configs = {}\nlocals = [\"192.0.2.1:1\"]", "limit configs"),
         (
             "configs.edge = 3\nlocals = [\"192.0.2.1:1\"]",
-            "bad value configs.edge",
+            "bad configs.edge",
         ),
         (
             "configs.Edge = {}\nlocals = [\"192.0.2.1:1\"]",
-            "bad value configs",
+            "bad configs",
         ),
         (
             "configs.b = {x = 1}\nconfigs.\"a b\" = {}\nlocals = [\"192.0.2.1:1\"]",
-            "bad value configs",
+            "bad configs",
         ),
         (
             "configs.a = {x = 1}\nconfigs.\"a b\" = {}\nlocals = [\"192.0.2.1:1\"]",
@@ -71,11 +71,11 @@ fn the_root_is_told_first(rt: HostRuntime) -> Result<(), Fail> {
         ),
         (
             "configs = 3\nlocals = [\"192.0.2.1:1\"]\ntwamp = \"edge\"",
-            "bad value twamp",
+            "bad twamp",
         ),
         (
             "configs.Edge = {}\nlocals = [\"192.0.2.1:1\"]\ntwamp = \"Edge\"",
-            "bad value twamp",
+            "bad twamp",
         ),
     ];
     for (text, want) in cases {
@@ -93,21 +93,21 @@ fn the_values_of_the_root(rt: HostRuntime) -> Result<(), Fail> {
         ("workers = 0", "limit workers"),
         ("workers = 65", "limit workers"),
         ("workers = -1", "limit workers"),
-        ("workers = \"1\"", "bad value workers"),
+        ("workers = \"1\"", "bad workers"),
         ("slots = 0", "limit slots"),
         ("slots = 16385", "limit slots"),
         ("rows = 0", "limit rows"),
         ("rows = 8192", "limit rows"),
         ("limit = -1", "limit limit"),
-        ("limit = 1.5", "bad value limit"),
+        ("limit = 1.5", "bad limit"),
         ("turns = 9223372036854775807", "ok"),
         ("turns = -1", "limit turns"),
-        ("control = 3\ntwamp = \"edge\"", "bad value control"),
+        ("control = 3\ntwamp = \"edge\"", "bad control"),
         ("control = \"192.0.2.1:862\"\ntwamp = \"edge\"", "ok"),
-        ("operator = \"192.0.2.1\"", "bad value operator"),
+        ("operator = \"192.0.2.1\"", "bad operator"),
         ("twamp = \"edge\"", "ok"),
-        ("twamp = \"other\"", "bad value twamp"),
-        ("twamp = 3", "bad value twamp"),
+        ("twamp = \"other\"", "bad twamp"),
+        ("twamp = 3", "bad twamp"),
         ("slots = 0\nworkers = 0\noperator = 3", "limit workers"),
     ];
     for (root, want) in cases {
@@ -122,26 +122,26 @@ fn the_values_of_the_root(rt: HostRuntime) -> Result<(), Fail> {
 fn the_values_of_a_configuration(rt: HostRuntime) -> Result<(), Fail> {
     let cases = [
         ("zeta = 1\nalpha = 1", "unknown configs.edge.alpha"),
-        ("stateful = 1", "bad value configs.edge.stateful"),
-        ("format = \"tai\"", "bad value configs.edge.format"),
+        ("stateful = 1", "bad configs.edge.stateful"),
+        ("format = \"tai\"", "bad configs.edge.format"),
         ("offset = 256", "limit configs.edge.offset"),
-        ("synced = \"yes\"", "bad value configs.edge.synced"),
+        ("synced = \"yes\"", "bad configs.edge.synced"),
         ("scale = 64", "limit configs.edge.scale"),
         ("multiplier = 0", "limit configs.edge.multiplier"),
         ("multiplier = 256", "limit configs.edge.multiplier"),
         ("key = \"\"", "limit configs.edge.key"),
-        ("key = \"0\"", "bad value configs.edge.key"),
-        ("key = \"0g\"", "bad value configs.edge.key"),
+        ("key = \"0\"", "bad configs.edge.key"),
+        ("key = \"0g\"", "bad configs.edge.key"),
         ("key = \"0F0f\"", "ok"),
         ("info = \"00000000\"", "ok"),
-        ("info = \"000000\"", "bad value configs.edge.info"),
-        ("info = \"0000000g\"", "bad value configs.edge.info"),
-        ("tlvs = 3", "bad value configs.edge.tlvs"),
+        ("info = \"000000\"", "bad configs.edge.info"),
+        ("info = \"0000000g\"", "bad configs.edge.info"),
+        ("tlvs = 3", "bad configs.edge.tlvs"),
         ("tlvs = []", "ok"),
         ("tlvs = [3, 5, 9, 10]", "ok"),
-        ("tlvs = [3, 4]", "bad value configs.edge.tlvs.1"),
-        ("tlvs = [3, 5, 3]", "bad value configs.edge.tlvs.2"),
-        ("tlvs = [-3]", "bad value configs.edge.tlvs.0"),
+        ("tlvs = [3, 4]", "bad configs.edge.tlvs.1"),
+        ("tlvs = [3, 5, 3]", "bad configs.edge.tlvs.2"),
+        ("tlvs = [-3]", "bad configs.edge.tlvs.0"),
         ("tlvs = 3\noffset = 256", "limit configs.edge.offset"),
     ];
     for (lines, want) in cases {
@@ -155,16 +155,16 @@ fn the_values_of_a_configuration(rt: HostRuntime) -> Result<(), Fail> {
 #[test]
 fn the_values_of_sessions(rt: HostRuntime) -> Result<(), Fail> {
     let cases = [
-        ("sessions = 3", "bad value sessions"),
+        ("sessions = 3", "bad sessions"),
         ("sessions = []", "ok"),
-        ("sessions = [3]", "bad value sessions.0"),
+        ("sessions = [3]", "bad sessions.0"),
         ("slots = 1\nsessions = [3, 3]", "limit sessions"),
         ("sessions = [{x = 1}]", "unknown sessions.0.x"),
         ("sessions = [{}]", "missing sessions.0.peer"),
         ("sessions = [{peer = 3}]", "missing sessions.0.config"),
         (
             "sessions = [{peer = 3, config = \"edge\"}]",
-            "bad value sessions.0.peer",
+            "bad sessions.0.peer",
         ),
         (
             "sessions = [{peer = 3, config = \"edge\", local = 1}]",
@@ -172,11 +172,11 @@ fn the_values_of_sessions(rt: HostRuntime) -> Result<(), Fail> {
         ),
         (
             "sessions = [{peer = \"192.0.2.9:1\", config = \"other\"}]",
-            "bad value sessions.0.config",
+            "bad sessions.0.config",
         ),
         (
             "sessions = [{peer = \"192.0.2.9:1\", config = \"edge\", mode = \"none\"}]",
-            "bad value sessions.0.mode",
+            "bad sessions.0.mode",
         ),
         (
             "sessions = [{peer = \"192.0.2.9:1\", config = \"edge\", ssid = 65536}]",
@@ -196,15 +196,15 @@ fn the_values_of_sessions(rt: HostRuntime) -> Result<(), Fail> {
         ),
         (
             "sessions = [{peer = \"192.0.2.9:1\", config = \"edge\", symmetrical = 1}]",
-            "bad value sessions.0.symmetrical",
+            "bad sessions.0.symmetrical",
         ),
         (
             "sessions = [{peer = \"192.0.2.9:1\", config = \"edge\", reflect = 1}]",
-            "bad value sessions.0",
+            "bad sessions.0",
         ),
         (
             "sessions = [{peer = \"192.0.2.9:1\", config = \"edge\", mode = \"twamp\", ssid = 1}]",
-            "bad value sessions.0",
+            "bad sessions.0",
         ),
         (
             "sessions = [{peer = \"192.0.2.9:1\", config = \"edge\", mode = \"twamp\", reflect = 1}]",
@@ -212,15 +212,15 @@ fn the_values_of_sessions(rt: HostRuntime) -> Result<(), Fail> {
         ),
         (
             "sessions = [{peer = \"192.0.2.9:1\", config = \"edge\", mode = \"auth\"}]",
-            "bad value sessions.0",
+            "bad sessions.0",
         ),
         (
             "sessions = [{peer = \"192.0.2.9:1\", config = \"edge\"}, {peer = \"192.0.2.9:1\", config = \"edge\"}]",
-            "bad value sessions.1",
+            "bad sessions.1",
         ),
         (
             "sessions = [{peer = \"192.0.2.9:1\", config = \"edge\"}, {peer = \"192.0.2.9:1\", config = \"edge\", mode = \"twamp\"}]",
-            "bad value sessions.1",
+            "bad sessions.1",
         ),
         (
             "sessions = [{peer = \"192.0.2.9:1\", config = \"edge\"}, {peer = \"192.0.2.9:1\", config = \"edge\", ssid = 1}]",
