@@ -543,3 +543,194 @@ fn the_longest_tails_are_answered(rt: HostRuntime) -> Result<(), Fail> {
     assert_eq!(rt; got.as_slice(), want.as_slice());
     Ok(())
 }
+
+const PEER: Endpoint = Endpoint {
+    address: Address::V4([192, 0, 2, 1]),
+    port: 5000,
+};
+
+/// The addresses of a reflector.
+const LOCALS: [Endpoint; 2] = [
+    Endpoint {
+        address: Address::V4([192, 0, 2, 10]),
+        port: 862,
+    },
+    Endpoint {
+        address: Address::V4([192, 0, 2, 11]),
+        port: 862,
+    },
+];
+
+/// `PARTS` with the TLV types 9 and 10.
+const REDIRECTED: ConfigParts = ConfigParts {
+    tlvs: 0x600,
+    ..PARTS
+};
+
+/// Where the reply to a request with a tail goes that arrived at the first local address, and its tail.
+#[derive(Drop)]
+struct SentReply {
+    from: u16,
+    to: Endpoint,
+    tail: Vec<u8>,
+}
+
+/// What is sent, or why nothing is.
+fn sent(alloc: Global, parts: ConfigParts, tail: &[u8]) -> Result<Result<SentReply, Silent>, Fail> {
+    let config = Config::make(parts).ok().ok_or("no configuration")?;
+    let key = Key {
+        local: 0,
+        peer: PEER,
+        mode: Mode::Plain,
+        ssid: 7,
+    };
+    let input = joined(alloc, REQUEST, tail)?;
+    if input.len() > 65_507 {
+        return Err("too long".into());
+    }
+    if let Judged::Silent(cause) = judge(&key, &config, &input) {
+        return Ok(Err(cause));
+    }
+    let meta = Meta {
+        local: 0,
+        peer: PEER,
+        len: input.len(),
+        ttl: None,
+        arrival: 0,
+    };
+    let mut out = vec![in alloc; 0xEE; 65_536]?;
+    let reply = reflect(
+        &key,
+        &NO_EXTRA,
+        &config,
+        &LOCALS,
+        0,
+        &meta,
+        999_999_999,
+        &input,
+        &mut out,
+    );
+    out.truncate(reply.len);
+    Ok(Ok(SentReply {
+        from: reply.from,
+        to: reply.to,
+        tail: octets_from(alloc, &out, 44)?,
+    }))
+}
+
+#[test]
+fn a_reply_goes_where_its_tail_asks_for(rt: HostRuntime) -> Result<(), Fail> {
+    let other = Endpoint {
+        address: Address::V4([198, 51, 100, 7]),
+        port: 5000,
+    };
+    let cases: [(&[u8], u16, Endpoint, &[u8]); 8] = [
+        (
+            b"\x80\x09\x00\x04\xC0\x00\x02\x0B",
+            1,
+            PEER,
+            b"\x00\x09\x00\x04\xC0\x00\x02\x0B",
+        ),
+        (
+            b"\x80\x09\x00\x04\xC0\x00\x02\x0C",
+            0,
+            PEER,
+            b"\x80\x09\x00\x04\xC0\x00\x02\x0C",
+        ),
+        (
+            b"\x80\x0A\x00\x08\x80\x01\x00\x04\x00\x00\x00\x01",
+            0,
+            PEER,
+            b"\x00\x0A\x00\x08\x80\x01\x00\x04\x00\x00\x00\x01",
+        ),
+        (
+            b"\x80\x0A\x00\x08\x80\x02\x00\x04\xC6\x33\x64\x07",
+            0,
+            other,
+            b"\x00\x0A\x00\x08\x80\x02\x00\x04\xC6\x33\x64\x07",
+        ),
+        (
+            b"\x80\x09\x00\x02\xC0\x00\x80\x0A\x00\x08\x80\x01\x00\x04\x00\x00\x00\x00",
+            0,
+            PEER,
+            b"\x40\x09\x00\x02\xC0\x00\x80\x0A\x00\x08\x80\x01\x00\x04\x00\x00\x00\x00",
+        ),
+        // Of two, the first is acted on, whatever the second has.
+        (
+            b"\x80\x09\x00\x04\xC0\x00\x02\x0C\x80\x09\x00\x04\xC0\x00\x02\x0B\x80\x09\x00\x01\xAA",
+            0,
+            PEER,
+            b"\x80\x09\x00\x04\xC0\x00\x02\x0C\x80\x09\x00\x04\xC0\x00\x02\x0B\x80\x09\x00\x01\xAA",
+        ),
+        (
+            b"\x80\x0A\x00\x00\x80\x0A\x00\x08\x80\x02\x00\x04\xC6\x33\x64\x07",
+            0,
+            PEER,
+            b"\x80\x0A\x00\x00\x80\x0A\x00\x08\x80\x02\x00\x04\xC6\x33\x64\x07",
+        ),
+        // Two sub-TLVs are no way to go.
+        (
+            b"\x80\x0A\x00\x0C\x80\x02\x00\x04\xC6\x33\x64\x07\x00\x01\x00\x00",
+            0,
+            PEER,
+            b"\x80\x0A\x00\x0C\x80\x02\x00\x04\xC6\x33\x64\x07\x00\x01\x00\x00",
+        ),
+    ];
+    for (tail, from, to, want) in cases {
+        let reply = sent(rt.alloc(), REDIRECTED, tail)?
+            .ok()
+            .ok_or("nothing is sent")?;
+        assert_eq!(rt; reply.from, from);
+        assert_eq!(rt; reply.to, to);
+        assert_eq!(rt; reply.tail.as_slice(), want);
+    }
+    Ok(())
+}
+
+#[test]
+fn a_sender_that_wants_no_reply_gets_none(rt: HostRuntime) -> Result<(), Fail> {
+    let tail = b"\x80\x0A\x00\x08\x80\x01\x00\x04\x00\x00\x00\x00";
+    let cause = sent(rt.alloc(), REDIRECTED, tail)?
+        .err()
+        .ok_or("a reply is sent")?;
+    assert_eq!(rt; cause, Silent::NoReply);
+    let reply = sent(rt.alloc(), PARTS, tail)?
+        .ok()
+        .ok_or("nothing is sent")?;
+    assert_eq!(rt; reply.to, PEER);
+    let want = b"\x80\x0A\x00\x08\x80\x01\x00\x04\x00\x00\x00\x00";
+    assert_eq!(rt; reply.tail.as_slice(), want.as_slice());
+    Ok(())
+}
+
+#[test]
+fn a_tail_whose_integrity_failed_is_asked_nothing(rt: HostRuntime) -> Result<(), Fail> {
+    let parts = ConfigParts {
+        key: Some(KEY),
+        ..REDIRECTED
+    };
+    let zeros = b"\x80\x08\x00\x10\x00\x00\x00\x00\x00\x00\x00\x00\x00\x00\x00\x00\x00\x00\x00\x00";
+    for (path, flagged) in [
+        (
+            b"\x80\x0A\x00\x08\x80\x01\x00\x04\x00\x00\x00\x00",
+            b"\xA0\x0A\x00\x08\x80\x01\x00\x04\x00\x00\x00\x00",
+        ),
+        (
+            b"\x80\x0A\x00\x08\x80\x02\x00\x04\xC6\x33\x64\x07",
+            b"\xA0\x0A\x00\x08\x80\x02\x00\x04\xC6\x33\x64\x07",
+        ),
+    ] {
+        let tail = joined(rt.alloc(), path, zeros)?;
+        let reply = sent(rt.alloc(), parts, &tail)?
+            .ok()
+            .ok_or("nothing is sent")?;
+        assert_eq!(rt; reply.from, 0);
+        assert_eq!(rt; reply.to, PEER);
+        let mut want = joined(rt.alloc(), flagged, zeros)?;
+        if let Some(flags) = want.get_mut(12) {
+            *flags = 0xA0;
+        }
+        assert_eq!(rt; reply.tail.as_slice(), want.as_slice());
+    }
+    Ok(())
+}
