@@ -36,10 +36,7 @@ fn the_root_is_told_first(rt: HostRuntime) -> Result<(), Fail> {
         ("locals = 3\n[configs]", "bad locals"),
         ("locals = []\n[configs]", "limit locals"),
         ("locals = [3]\n[configs]", "bad locals.0"),
-        (
-            "locals = [\"192.0.2.1:0\"]\n[configs]",
-            "bad locals.0",
-        ),
+        ("locals = [\"192.0.2.1:0\"]\n[configs]", "bad locals.0"),
         (
             "locals = [\"192.0.2.1:1\", \"192.0.2.1:2\", \"192.0.2.1:1\"]\n[configs]",
             "bad locals.2",
@@ -48,10 +45,7 @@ fn the_root_is_told_first(rt: HostRuntime) -> Result<(), Fail> {
             "locals = [1,2,3,4,5,6,7,8,9,10,11,12,13,14,15,16,17]\n[configs]",
             "limit locals",
         ),
-        (
-            "configs = 3\nlocals = [\"192.0.2.1:1\"]",
-            "bad configs",
-        ),
+        ("configs = 3\nlocals = [\"192.0.2.1:1\"]", "bad configs"),
         ("configs = {}\nlocals = [\"192.0.2.1:1\"]", "limit configs"),
         (
             "configs.edge = 3\nlocals = [\"192.0.2.1:1\"]",
