@@ -14,7 +14,8 @@ use Rattle.refl_types.specs.Spelling.{family, address_octets, FitsEndpoint}
 use Rattle.replay_format.specs.Records.{Arrives, Datagram, datagram_of, datagram_octets, ttl_octets, spelling, FitsTtl, FitsDatagram}
 use Rattle.replay_format.specs.View.{IsFront}
 use Rattle.replay_format.specs.Whole.{HasAddress, HasHead}
-use Rattle.replay_format.proofs.Formats.{address_octets_length, datagram_length}
+use Rattle.session_octets.proofs.Formats.{address_octets_length}
+use Rattle.replay_format.proofs.Formats.{datagram_length}
 
 pub field_64 : (at : ℕ) (octets : List ℕ) → IsBytes octets → at + 8 ≤ length octets → to_be_bytes w64 (from_be_bytes w64 (field at 8 octets)) ≡ field at 8 octets
 field_64 at octets bytes le = be_bytes_8 (field at 8 octets) (from_be_bytes w64 (field at 8 octets)) (length-field at 8 octets le) (IsBytes-take 8 (drop at octets) (IsBytes-drop at octets bytes)) refl

@@ -7,11 +7,12 @@ ghost use Rattle.replay_format.specs.Records.{Item, Fits, spelling, datagram_of}
 ghost use Rattle.replay_format.specs.Reading.{datagram_at, opening_at, item_at};
 ghost use Rattle.replay_format.specs.View.{item_of, IsParsed, IsMeasured};
 
-use crate::fields::{body_len_at, config_parts_at, endpoint_at, extra_at, key_at, ttl_at};
+use crate::fields::{body_len_at, ttl_at};
 use crate::layout::{DATAGRAM_FIELDS, DATAGRAM_TAG, OPEN_LEN, OPEN_TAG};
 use crate::whole::read_datagram;
 use octet_format::{Unread, octet_in, octets_at, u16_at, u64_at, zeros_at};
 use refl_types::{Config, ConfigParts, Extra, Key, Meta};
+use session_octets::{config_at, endpoint_at, extra_at, key_at};
 
 /// A record of a stream.
 #[derive(Clone, Copy, Debug)]
@@ -32,14 +33,14 @@ pub enum Record<'a> {
 
 #[tactic(auto, unfolding(crate::specs::Reading::opening_at))]
 fn opening_at(octets: &[u8]) -> Result<(Key, Extra, ConfigParts, &[u8]), Unread>
-    ensures value { Gives (λ x. (record { key = x.0; extra = x.1; config = x.2 }, x.3.now)) result (opening_at octets.now) }
     ensures sound { IfOk result (λ x. IsConfig x.2) }
+    ensures value { Gives (λ x. (record { key = x.0; extra = x.1; config = x.2 }, x.3.now)) result (opening_at octets.now) }
 {
     let rest = zeros_at(3, octets)?;
     let (_, rest) = octet_in(OPEN_LEN, OPEN_LEN, rest)?;
     let (key, rest) = key_at(rest)?;
     let (extra, rest) = extra_at(key.mode, rest)?;
-    let (config, rest) = config_parts_at(rest)?;
+    let (config, rest) = config_at(rest)?;
     Ok((key, extra, config, rest))
 }
 
@@ -70,6 +71,17 @@ fn datagram_at(octets: &[u8]) -> Result<(Meta, u64, &[u8], &[u8]), Unread>
     ))
 }
 
+/// The configuration of parts that make one.
+fn made(parts: ConfigParts) -> Config
+    requires { IsConfig parts }
+    ensures { result ≡ parts }
+{
+    match Config::make(parts) {
+        Ok(config) => config,
+        Err(_) => unreachable!(),
+    }
+}
+
 #[tactic(auto, unfolding(crate::specs::Reading::item_at))]
 fn record_at(octets: &[u8]) -> Result<(Record, &[u8]), Unread>
     ensures value { Gives (λ x. (item_of x.0, x.1.now)) result (item_at octets.now) }
@@ -79,10 +91,8 @@ fn record_at(octets: &[u8]) -> Result<(Record, &[u8]), Unread>
         [] => Err(Unread::More),
         [OPEN_TAG, rest @ ..] => {
             let (key, extra, parts, rest) = opening_at(rest)?;
-            match Config::make(parts) {
-                Ok(config) => Ok((Record::Open { key, extra, config }, rest)),
-                Err(_) => unreachable!(),
-            }
+            let config = made(parts);
+            Ok((Record::Open { key, extra, config }, rest))
         }
         [DATAGRAM_TAG, rest @ ..] => {
             let (meta, t3, octets, rest) = datagram_at(rest)?;

@@ -1,7 +1,7 @@
 use Rattle.std.proofs.Common.{◌≡◌, ℕ, ◌+◌, ◌*◌, true, subst, arith}
 use Rattle.refl_types.specs.Configs.{are_known_tlvs}
 use Rattle.refl_types.proofs.TlvFacts.{known_joined}
-use Rattle.replay_format.proofs.fields.tlvs_at.Goals as goal
+use Rattle.session_octets.proofs.reading.tlvs_at.Goals as goal
 
 pub returns-clause-known : goal.returns-clause-known
 returns-clause-known c =
