@@ -1,24 +1,24 @@
 -- Each part of a record obeys its spelling.
-use Rattle.std.proofs.Common.{◌≡◌, ℕ, ◌+◌, ◌-◌, ◌*◌, ◌/◌, ◌%◌, ◌^◌, ◌<◌, ◌≤◌, Bool, true, false, cond, eqb, ◌||◌, ◌&&◌, not, List, [], ◌∷◌, ◌++◌, length, replicate, Option, Some, None, Result, Ok, refl, sym, ap, subst, ◌∙◌, append_assoc, arith, inl, inr, ◌⊎◌}
+use Rattle.std.proofs.Common.{◌≡◌, ℕ, ◌+◌, ◌-◌, ◌*◌, ◌/◌, ◌%◌, ◌^◌, ◌<◌, ◌≤◌, Bool, true, false, cond, eqb, ◌&&◌, not, List, [], ◌∷◌, ◌++◌, length, replicate, Option, Some, None, refl, sym, ap, subst, ◌∙◌, append_assoc, arith, inl, inr, ◌⊎◌}
 use Rattle.std.specs.Int.{w16, w32, w64, to_be_bytes}
 use Rattle.std.proofs.lemmas.Bool.{eqb-true}
 use Rattle.std.proofs.lemmas.Bool.Decides.{nat_tests}
 use Rattle.std.proofs.lemmas.List.{append-nil, length-append}
-use Rattle.octet_format.specs.declared.reading.Unread.{Unread}
+use Rattle.refl_types.specs.declared.types.Endpoint.{Endpoint}
 use Rattle.refl_types.specs.declared.types.Mode.{Mode}
 use Rattle.refl_types.specs.declared.types.Mode.TheVariants.{Plain, Auth, Twamp}
 use Rattle.refl_types.specs.declared.types.Key.{Key}
 use Rattle.refl_types.specs.declared.types.Extra.{Extra}
 use Rattle.octet_format.specs.Octets.{IsArray}
-use Rattle.octet_format.specs.Reading.{◌>>=◌}
 use Rattle.refl_types.specs.Keys.{is_sound, is_sound_in, has_no_extra}
-use Rattle.refl_types.specs.Spelling.{endpoint_octets, key_octets, extra_octets, config_octets, FitsEndpoint, FitsKey, FitsConfig}
-use Rattle.replay_format.specs.Records.{Item, Opens, Arrives, Opening, Datagram, ttl_octets, opening_octets, datagram_octets, spelling, FitsTtl, FitsDatagram, FitsOpening, Fits}
-use Rattle.replay_format.specs.Reading.{body_len_at, ttl_at, datagram_at, opening_at, item_at}
+use Rattle.refl_types.specs.Spelling.{endpoint_octets, key_octets, extra_octets, config_octets, FitsEndpoint, FitsKey, FitsSession, FitsConfig}
+use Rattle.replay_format.proofs.ListFormat.{locals_body, length-locals, locals_obeys}
+use Rattle.replay_format.specs.Records.{Item, Opens, Sets, Closes, Arrives, Lists, Opening, Setting, Datagram, ttl_octets, opening_octets, setting_octets, datagram_octets, spelling, no_extra, FitsTtl, FitsDatagram, FitsOpening, FitsSetting, FitsLocals, Fits}
+use Rattle.replay_format.specs.Reading.{body_len_at, ttl_at, datagram_at, opening_at, setting_at, closing_at, locals_at, body_at, item_at}
 use Rattle.refl_types.proofs.SameFacts.{both_true}
 use Rattle.session_octets.specs.Sound.{FitsInMode, HasNoExtra, FitsExtra}
 use Rattle.session_octets.proofs.Formats.{endpoint_obeys, key_obeys, extra_obeys, config_obeys, endpoint_octets_length, key_octets_length, extra_octets_length, config_octets_length}
-use Rattle.octet_format.proofs.Obeys.{Obeys, then_obeys, done_obeys, same_obeys, into_obeys, octet_obeys, FitsOctet, Within, range_obeys, u16_obeys, u64_obeys, octets_obeys, zeros_obeys}
+use Rattle.octet_format.proofs.Obeys.{Obeys, then_obeys, done_obeys, same_obeys, into_obeys, Within, range_obeys, u16_obeys, u64_obeys, octets_obeys, zeros_obeys}
 
 -- ---- a TTL that was ttl_octets or not
 
@@ -139,9 +139,9 @@ body_len_obeys = same_obeys body_len_at (λ n. (digit 16777216 n ∷ []) ++ ((di
 
 -- ---- datagrams
 
-told_length : (o : Option ℕ) → length (ttl_octets o) ≡ 2
-told_length None = refl
-told_length (Some n) = refl
+pub ttl_octets_length : (o : Option ℕ) → length (ttl_octets o) ≡ 2
+ttl_octets_length None = refl
+ttl_octets_length (Some n) = refl
 
 pub datagram_length : (d : Datagram) → FitsEndpoint d.peer → length (datagram_octets d) ≡ 39 + length d.octets
 datagram_length d f =
@@ -153,7 +153,7 @@ datagram_length d f =
     let h = length-append (to_be_bytes w16 d.local ++ endpoint_octets d.peer ++ ttl_octets d.ttl) (to_be_bytes w64 d.arrival) in
     let i = length-append (to_be_bytes w16 d.local ++ endpoint_octets d.peer ++ ttl_octets d.ttl ++ to_be_bytes w64 d.arrival) (to_be_bytes w64 d.t3) in
     let j = length-append (to_be_bytes w16 d.local ++ endpoint_octets d.peer ++ ttl_octets d.ttl ++ to_be_bytes w64 d.arrival ++ to_be_bytes w64 d.t3) d.octets in
-    omega (arith, endpoint_octets_length d.peer f, told_length d.ttl)
+    omega (arith, endpoint_octets_length d.peer f, ttl_octets_length d.ttl)
 
 abbrev body_len : Datagram → ℕ
 body_len d = 39 + length d.octets
@@ -273,61 +273,196 @@ opening_obeys = same_obeys opening_at opening_text opening_body OpeningFit FitsO
     (λ z o fz fo. refl))
     opening_fits opening_parts
 
+-- ---- keys without an extra
+
+key_sound : (k : Key) → FitsInMode k → FitsSession k no_extra
+key_sound k f = record { key = f.fits; reflect = omega arith; sound = sound_test k no_extra f.sound (none k.mode) }
+  where
+    none : (m : Mode) → HasNoExtra m no_extra
+    none Plain = (refl, refl)
+    none Auth = (refl, refl)
+    none Twamp = tt
+
+key_in_mode : (k : Key) → FitsSession k no_extra → FitsInMode k
+key_in_mode k f = record { fits = f.key; sound = sound_ssid k no_extra f.sound }
+
+abbrev SettingFit : Setting → Type 0
+SettingFit s = Unit {0} × (Within 100 100 100 × (FitsInMode s.key × (FitsConfig s.config × ((let y : Setting = record { key = s.key; config = s.config } in y) ≡ s))))
+
+abbrev setting_text : Setting → List ℕ
+setting_text s = replicate 3 0 ++ ((100 ∷ []) ++ (key_octets s.key ++ (config_octets s.config ++ [])))
+
+abbrev setting_body : Setting → List ℕ
+setting_body s = to_be_bytes w32 (length (setting_octets s)) ++ setting_octets s
+
+setting_length : (s : Setting) → FitsKey s.key → FitsConfig s.config → length (setting_octets s) ≡ 100
+setting_length s k c = omega (arith, key_octets_length s.key k, config_octets_length s.config c, length-append (key_octets s.key) (config_octets s.config))
+
+setting_fits : (s : Setting) → SettingFit s → FitsSetting s × (setting_text s ≡ setting_body s)
+setting_fits s f =
+    let fits : FitsSetting s = record { session = key_sound s.key f.1.1.0; config = f.1.1.1.0 } in
+    (fits, ap (λ (l : List ℕ). 0 ∷ 0 ∷ 0 ∷ 100 ∷ (key_octets s.key ++ l)) (append-nil (config_octets s.config)) ∙ ap (λ (n : ℕ). to_be_bytes w32 n ++ setting_octets s) (sym (setting_length s f.1.1.0.fits fits.config)))
+
+setting_parts : (s : Setting) → FitsSetting s → SettingFit s
+setting_parts s f = (tt, ((omega arith, omega arith), (key_in_mode s.key f.session, (f.config, refl))))
+
+pub setting_obeys : Obeys setting_at setting_body FitsSetting
+unfolding setting_at
+setting_obeys = same_obeys setting_at setting_text setting_body SettingFit FitsSetting
+    (then_obeys _ _ _ (λ (s : Setting). tt) _ _ _ (zeros_obeys 3)
+    (λ z fz. then_obeys _ _ _ (λ (s : Setting). 100) _ _ _ (range_obeys 100 100 (omega arith) (omega arith))
+    (λ n fn. then_obeys _ _ _ (λ (s : Setting). s.key) _ _ _ key_obeys
+    (λ k fk. then_obeys _ _ _ (λ (s : Setting). s.config) _ _ _ config_obeys
+    (λ c fc. done_obeys (let y : Setting = record { key = k; config = c } in y))
+    (λ c s fc fs. ap (λ (y : Setting). y.config) (sym fs)))
+    (λ k s fk fs. ap (λ (y : Setting). y.key) (sym fs.1)))
+    (λ n s fn fs. omega (arith, fn)))
+    (λ z s fz fs. refl))
+    setting_fits setting_parts
+
+abbrev ClosingFit : Key → Type 0
+ClosingFit k = Unit {0} × (Within 24 24 24 × FitsInMode k)
+
+abbrev closing_text : Key → List ℕ
+closing_text k = replicate 3 0 ++ ((24 ∷ []) ++ key_octets k)
+
+abbrev closing_body : Key → List ℕ
+closing_body k = to_be_bytes w32 (length (key_octets k)) ++ key_octets k
+
+abbrev FitsClosing : Key → Type 0
+FitsClosing k = FitsSession k no_extra
+
+closing_fits : (k : Key) → ClosingFit k → FitsClosing k × (closing_text k ≡ closing_body k)
+closing_fits k f = (key_sound k f.1.1, ap (λ (n : ℕ). to_be_bytes w32 n ++ key_octets k) (sym (key_octets_length k f.1.1.fits)))
+
+closing_parts : (k : Key) → FitsClosing k → ClosingFit k
+closing_parts k f = (tt, ((omega arith, omega arith), key_in_mode k f))
+
+pub closing_obeys : Obeys closing_at closing_body FitsClosing
+unfolding closing_at
+closing_obeys = same_obeys closing_at closing_text closing_body ClosingFit FitsClosing
+    (then_obeys _ _ _ (λ (k : Key). tt) _ _ _ (zeros_obeys 3)
+    (λ z fz. then_obeys _ _ _ (λ (k : Key). 24) _ _ _ (range_obeys 24 24 (omega arith) (omega arith))
+    (λ n fn. key_obeys)
+    (λ n k fn fk. omega (arith, fn)))
+    (λ z k fz fk. refl))
+    closing_fits closing_parts
+
+-- ---- records by their tags
+
 abbrev tag_of : Item → ℕ
 tag_of (Opens o) = 1
+tag_of (Sets s) = 2
+tag_of (Closes k) = 3
 tag_of (Arrives d) = 4
+tag_of (Lists ls) = 5
 
 abbrev body_text : Item → List ℕ
 body_text (Opens o) = opening_body o
+body_text (Sets s) = setting_body s
+body_text (Closes k) = closing_body k
 body_text (Arrives d) = datagram_body d
+body_text (Lists ls) = locals_body ls
 
 abbrev BodyFits : ℕ → Item → Type 0
 BodyFits t i = (tag_of i ≡ t) × Fits i
 
-abbrev after_tag : ℕ → List ℕ → Result (Item × List ℕ) Unread
-after_tag t octets = cond (eqb t 1) (opening_at octets >>= λ o. Ok (Opens o.0, o.1)) (datagram_at octets >>= λ d. Ok (Arrives d.0, d.1))
-
 opening_back : (i : Item) → BodyFits 1 i → (o : Opening) × FitsOpening o × (Opens o ≡ i)
 opening_back (Opens o) f = (o, f.1, refl)
+opening_back (Sets s) f = absurd (omega (arith, f.0))
+opening_back (Closes k) f = absurd (omega (arith, f.0))
 opening_back (Arrives d) f = absurd (omega (arith, f.0))
+opening_back (Lists ls) f = absurd (omega (arith, f.0))
+
+setting_back : (i : Item) → BodyFits 2 i → (s : Setting) × FitsSetting s × (Sets s ≡ i)
+setting_back (Opens o) f = absurd (omega (arith, f.0))
+setting_back (Sets s) f = (s, f.1, refl)
+setting_back (Closes k) f = absurd (omega (arith, f.0))
+setting_back (Arrives d) f = absurd (omega (arith, f.0))
+setting_back (Lists ls) f = absurd (omega (arith, f.0))
+
+closing_back : (i : Item) → BodyFits 3 i → (k : Key) × FitsClosing k × (Closes k ≡ i)
+closing_back (Opens o) f = absurd (omega (arith, f.0))
+closing_back (Sets s) f = absurd (omega (arith, f.0))
+closing_back (Closes k) f = (k, f.1, refl)
+closing_back (Arrives d) f = absurd (omega (arith, f.0))
+closing_back (Lists ls) f = absurd (omega (arith, f.0))
 
 arrived_back : (i : Item) → BodyFits 4 i → (d : Datagram) × FitsDatagram d × (Arrives d ≡ i)
 arrived_back (Opens o) f = absurd (omega (arith, f.0))
+arrived_back (Sets s) f = absurd (omega (arith, f.0))
+arrived_back (Closes k) f = absurd (omega (arith, f.0))
 arrived_back (Arrives d) f = (d, f.1, refl)
+arrived_back (Lists ls) f = absurd (omega (arith, f.0))
 
-after_1 : Obeys (after_tag 1) body_text (BodyFits 1)
-after_1 = into_obeys opening_at opening_body FitsOpening (λ o. Opens o) body_text (BodyFits 1) opening_obeys (λ o f. ((refl, f), refl)) opening_back
+listed_back : (i : Item) → BodyFits 5 i → (ls : List Endpoint) × FitsLocals ls × (Lists ls ≡ i)
+listed_back (Opens o) f = absurd (omega (arith, f.0))
+listed_back (Sets s) f = absurd (omega (arith, f.0))
+listed_back (Closes k) f = absurd (omega (arith, f.0))
+listed_back (Arrives d) f = absurd (omega (arith, f.0))
+listed_back (Lists ls) f = (ls, f.1, refl)
 
-after_tag_4 : Obeys (after_tag 4) body_text (BodyFits 4)
-after_tag_4 = into_obeys datagram_at datagram_body FitsDatagram (λ d. Arrives d) body_text (BodyFits 4) datagram_obeys (λ d f. ((refl, f), refl)) arrived_back
+body_1 : Obeys (body_at 1) body_text (BodyFits 1)
+unfolding body_at
+body_1 = into_obeys opening_at opening_body FitsOpening (λ o. Opens o) body_text (BodyFits 1) opening_obeys (λ o f. ((refl, f), refl)) opening_back
 
-abbrev is_tag : ℕ → Bool
-is_tag b = eqb b 1 || eqb b 4
+body_2 : Obeys (body_at 2) body_text (BodyFits 2)
+unfolding body_at
+body_2 = into_obeys setting_at setting_body FitsSetting (λ s. Sets s) body_text (BodyFits 2) setting_obeys (λ s f. ((refl, f), refl)) setting_back
 
-two_tags : (t : ℕ) → is_tag t ≡ true → (t ≡ 1) ⊎ (t ≡ 4)
-two_tags t e = grind (arith, nat_tests)
+body_3 : Obeys (body_at 3) body_text (BodyFits 3)
+unfolding body_at
+body_3 = into_obeys closing_at closing_body FitsClosing (λ k. Closes k) body_text (BodyFits 3) closing_obeys (λ k f. ((refl, f), refl)) closing_back
 
-after_tags : (t : ℕ) → FitsOctet is_tag t → Obeys (after_tag t) body_text (BodyFits t)
-after_tags t fits = elim (two_tags t fits.0) [
-  | inl e ↦ subst (λ (n : ℕ). Obeys (after_tag n) body_text (BodyFits n)) (sym e) after_1
-  | inr e ↦ subst (λ (n : ℕ). Obeys (after_tag n) body_text (BodyFits n)) (sym e) after_tag_4
-]
+body_4 : Obeys (body_at 4) body_text (BodyFits 4)
+unfolding body_at
+body_4 = into_obeys datagram_at datagram_body FitsDatagram (λ d. Arrives d) body_text (BodyFits 4) datagram_obeys (λ d f. ((refl, f), refl)) arrived_back
 
-item_fits : (i : Item) → FitsOctet is_tag (tag_of i) × BodyFits (tag_of i) i → Fits i × ((tag_of i ∷ []) ++ body_text i ≡ spelling i)
+body_5 : Obeys (body_at 5) body_text (BodyFits 5)
+unfolding body_at
+body_5 = into_obeys locals_at locals_body FitsLocals (λ ls. Lists ls) body_text (BodyFits 5) locals_obeys (λ ls f. ((refl, f), refl)) listed_back
+
+five_tags : (t : ℕ) → Within 1 5 t → (t ≡ 1) ⊎ ((t ≡ 2) ⊎ ((t ≡ 3) ⊎ ((t ≡ 4) ⊎ (t ≡ 5))))
+five_tags t w = grind (arith, nat_tests)
+
+body_obeys : (t : ℕ) → Within 1 5 t → Obeys (body_at t) body_text (BodyFits t)
+body_obeys t w =
+    let P : ℕ → Type 0 = λ n. Obeys (body_at n) body_text (BodyFits n) in
+    elim (five_tags t w) [
+      | inl e ↦ subst P (sym e) body_1
+      | inr r ↦ elim r [
+        | inl e ↦ subst P (sym e) body_2
+        | inr r ↦ elim r [
+          | inl e ↦ subst P (sym e) body_3
+          | inr r ↦ elim r [ inl e ↦ subst P (sym e) body_4 | inr e ↦ subst P (sym e) body_5 ]
+        ]
+      ]
+    ]
+
+item_fits : (i : Item) → Within 1 5 (tag_of i) × BodyFits (tag_of i) i → Fits i × ((tag_of i ∷ []) ++ body_text i ≡ spelling i)
 item_fits (Opens o) f = (f.1.1, refl)
+item_fits (Sets s) f = (f.1.1, refl)
+item_fits (Closes k) f = (f.1.1, refl)
 item_fits (Arrives d) f = (f.1.1, refl)
+item_fits (Lists ls) f = (f.1.1, refl)
 
-item_back : (i : Item) → Fits i → FitsOctet is_tag (tag_of i) × BodyFits (tag_of i) i
-item_back (Opens o) f = ((refl, omega arith), (refl, f))
-item_back (Arrives d) f = ((refl, omega arith), (refl, f))
+item_back : (i : Item) → Fits i → Within 1 5 (tag_of i) × BodyFits (tag_of i) i
+item_back (Opens o) f = ((omega arith, omega arith), (refl, f))
+item_back (Sets s) f = ((omega arith, omega arith), (refl, f))
+item_back (Closes k) f = ((omega arith, omega arith), (refl, f))
+item_back (Arrives d) f = ((omega arith, omega arith), (refl, f))
+item_back (Lists ls) f = ((omega arith, omega arith), (refl, f))
 
 pub item_obeys : Obeys item_at spelling Fits
 unfolding item_at
-item_obeys = same_obeys item_at (λ i. (tag_of i ∷ []) ++ body_text i) spelling (λ i. FitsOctet is_tag (tag_of i) × BodyFits (tag_of i) i) Fits
-    (then_obeys _ _ _ tag_of _ _ _ (octet_obeys is_tag 1 (refl, omega arith)) after_tags (λ t i ft fi. fi.0))
+item_obeys = same_obeys item_at (λ i. (tag_of i ∷ []) ++ body_text i) spelling (λ i. Within 1 5 (tag_of i) × BodyFits (tag_of i) i) Fits
+    (then_obeys _ _ _ tag_of _ _ _ (range_obeys 1 5 (omega arith) (omega arith)) body_obeys (λ t i ft fi. fi.0))
     item_fits item_back
 
--- no spelling is longer than the longest datagram_octets's
+-- no spelling is longer than that of the longest datagram
 pub spelling_short : (i : Item) → Fits i → length (spelling i) ≤ 65551
 spelling_short (Opens o) f = omega (arith, opening_length o f.session.key f.config)
+spelling_short (Sets s) f = omega (arith, setting_length s f.session.key f.config)
+spelling_short (Closes k) f = omega (arith, key_octets_length k f.key)
 spelling_short (Arrives d) f = omega (arith, datagram_length d f.peer, f.len)
+spelling_short (Lists ls) f = omega (arith, length-locals ls f.each, f.count)

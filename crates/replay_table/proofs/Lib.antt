@@ -3,3 +3,5 @@ pub mod AnswerFacts
 pub mod PlaceFacts
 pub mod ReplyFacts
 pub mod EndFacts
+pub mod ConfigFacts
+pub mod ChangeFacts

@@ -1,6 +1,9 @@
 //! The sessions of a replay, and what each record is answered.
 #![tactic(auto)]
 
+mod accepting;
+mod changing;
+mod opening;
 mod reply;
 mod session;
 mod sessions;
