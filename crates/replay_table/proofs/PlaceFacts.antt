@@ -1,5 +1,5 @@
 -- A walk over the sessions finds the first that matches.
-use Rattle.std.proofs.Common.{◌≡◌, ℕ, suc, ◌+◌, ◌<◌, ◌≤◌, Bool, true, false, cond, List, [], ◌∷◌, drop, length, get_or, Option, Some, None, position, refl, sym, ap, ◌∙◌, drop-cons, arith}
+use Rattle.std.proofs.Common.{◌≡◌, ℕ, suc, ◌+◌, ◌<◌, ◌≤◌, Bool, true, false, cond, List, ◌∷◌, drop, length, get_or, Some, None, position, sym, ap, ◌∙◌, drop-cons, arith}
 use Rattle.std.specs.List.{position_from}
 use Rattle.std.proofs.lemmas.List.{nil_from_length, length-drop}
 use Rattle.std.proofs.lemmas.Iterator.Adapters.{position_from-zero}

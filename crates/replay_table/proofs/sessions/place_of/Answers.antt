@@ -1,4 +1,4 @@
-use Rattle.std.proofs.Common.{◌∙◌, sym, ap, arith, position}
+use Rattle.std.proofs.Common.{◌∙◌, ap, arith, position}
 use Rattle.session_key.specs.declared.matching.Query.{Query}
 use Rattle.replay_table.proofs.PlaceFacts.{passes, begins, finds, goes_past, ends}
 use Rattle.replay_table.proofs.sessions.place_of.Goals as goal
