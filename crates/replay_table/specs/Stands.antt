@@ -57,10 +57,10 @@ pub record IsReflected (s : Session) (octets : List ℕ) : Type 0 where
   pub judged : judgement s.key.mode s.config octets ≡ Reflect
   pub limit : length octets ≤ 65507
 
--- the answer to such a datagram was written at the front, n octets
-pub record IsSent (s : Session) (d : Datagram) (before written : List ℕ) (n : ℕ) : Type 0 where
-  pub octets : (locals : List Endpoint) (e : Entry) → StandsFor s e → written ≡ answer_octets (Sent (sending locals e d)) ++ drop n before
-  pub len : (locals : List Endpoint) (e : Entry) → StandsFor s e → n ≡ length (answer_octets (Sent (sending locals e d)))
+-- the answer to such a datagram was written at the front, n octets, where these are the reflector's own addresses
+pub record IsSent (locals : List Endpoint) (s : Session) (d : Datagram) (before written : List ℕ) (n : ℕ) : Type 0 where
+  pub octets : (e : Entry) → StandsFor s e → written ≡ answer_octets (Sent (sending locals e d)) ++ drop n before
+  pub len : (e : Entry) → StandsFor s e → n ≡ length (answer_octets (Sent (sending locals e d)))
   pub fits : n ≤ 65538
 
 -- the answer to a datagram was written at the front, n octets, and the sessions after it are kept

@@ -52,7 +52,7 @@ impl Model for Sessions {
 
     ghost view = { λ s. record { sessions = s.list.items; rows = s.book; locals = take s.local_count s.locals } };
 
-    ghost invariant = { λ s. (vec_len s.list ≤ SESSIONS) × (SESSIONS ≤ vec_capacity s.list) × (s.book.limit ≡ 1024) };
+    ghost invariant = { λ s. (vec_len s.list ≤ SESSIONS) × (SESSIONS ≤ vec_capacity s.list) × (s.book.limit ≡ 1024) × (s.local_count ≤ 16) };
 }
 
 /// The place of the session that a datagram matches.
@@ -82,12 +82,20 @@ fn write_unsent(cause: UnsentCause, out: &mut [u8]) -> usize
 
 /// Answers a datagram.
 #[inline(always)]
-fn arrive(list: &mut [Session], meta: &Meta, t3: u64, octets: &[u8], out: &mut [u8]) -> usize
+fn arrive(
+    list: &mut [Session],
+    locals: &[LocalAddr],
+    meta: &Meta,
+    t3: u64,
+    octets: &[u8],
+    out: &mut [u8],
+) -> usize
     requires measured { meta.now.len ≡ length octets.now }
     requires limit { length octets.now ≤ 65507 }
+    requires locals { length locals.now ≤ 16 }
     requires room { ANSWER_ROOM ≤ length out.old }
     ensures fits { result ≤ 65538 }
-    ensures answered { (t : Table) → SessionsStand list.old t.sessions → IsArrived t list.new (datagram_of meta.now t3 octets.now) out.old out.new result }
+    ensures answered { (t : Table) → SessionsStand list.old t.sessions → locals.now ≡ t.locals → IsArrived t list.new (datagram_of meta.now t3 octets.now) out.old out.new result }
 {
     let Some(place) = place_of(list, meta, octets) else {
         return write_unsent(UnsentCause::NoSession, out);
@@ -98,7 +106,7 @@ fn arrive(list: &mut [Session], meta: &Meta, t3: u64, octets: &[u8], out: &mut [
         Judged::Silent(Silent::BadHmac) => write_unsent(UnsentCause::BadHmac, out),
         Judged::Silent(Silent::NoReply) => write_unsent(UnsentCause::NoReply, out),
         Judged::Reflect => {
-            let len = write_reflection(session, meta, t3, octets, out);
+            let len = write_reflection(session, meta, t3, octets, locals, out);
             let session = &mut list[place];
             session.count = session.count.wrapping_add(1);
             len
@@ -138,7 +146,8 @@ impl Sessions {
         ensures answered { (t : Table) → Stands self.old t → IsAnswered t self.new (Arrives (datagram_of meta.now t3 octets.now)) out.old out.new result }
         ensures fits { result ≤ 65538 }
     {
-        arrive(&mut self.list, meta, t3, octets, out)
+        let locals = &self.locals[..self.local_count as usize];
+        arrive(&mut self.list, locals, meta, t3, octets, out)
     }
 
     /// The same, out of line.
@@ -150,7 +159,8 @@ impl Sessions {
         ensures answered { (t : Table) → Stands self.old t → IsAnswered t self.new (Arrives (datagram_of meta.now t3 octets.now)) out.old out.new result }
         ensures fits { result ≤ 65538 }
     {
-        arrive(&mut self.list, meta, t3, octets, out)
+        let locals = &self.locals[..self.local_count as usize];
+        arrive(&mut self.list, locals, meta, t3, octets, out)
     }
 
     /// Writes the answer to a record at the front, says how many octets it has, and keeps the table that the record

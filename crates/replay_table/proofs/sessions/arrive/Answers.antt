@@ -1,12 +1,13 @@
-use Rattle.std.proofs.Common.{◌≡◌, get_or, refl, sym, ap, subst, ◌∙◌}
+use Rattle.std.proofs.Common.{◌≡◌, List, ◌++◌, length, drop, get_or, refl, sym, ap, subst, ◌∙◌}
 use Rattle.std.proofs.lemmas.List.Quantifiers.{position-Some}
+use Rattle.refl_types.specs.declared.types.Endpoint.{Endpoint}
 use Rattle.refl_types.specs.declared.outcome.Silent.TheVariants.{Short, BadHmac, NoReply}
 use Rattle.session_key.specs.declared.matching.Query.{Query}
 use Rattle.session_key.specs.Matching.{query_of, matches}
 use Rattle.reflect_core.specs.declared.judging.Judged.TheVariants.{Reflect, Silent}
 use Rattle.reflect_core.specs.Judgement.{judgement}
 use Rattle.replay_format.specs.Records.{Datagram, datagram_of}
-use Rattle.replay_format.specs.Answers.{Unsent, Sent}
+use Rattle.replay_format.specs.Answers.{Unsent, Sent, answer_octets}
 use Rattle.replay_format.specs.declared.code.UnsentCause.TheVariants as causes
 use Rattle.replay_table.specs.declared.session.Session.{Session}
 use Rattle.replay_table.specs.Table.{update, raised}
@@ -19,7 +20,7 @@ use Rattle.replay_table.proofs.EndFacts.{ends_same}
 use Rattle.replay_table.proofs.sessions.arrive.Goals as goal
 
 pub returns-in_default-clause-answered : goal.returns-in_default-clause-answered
-returns-in_default-clause-answered c = λ t st.
+returns-in_default-clause-answered c = λ t st own.
     let m = c.args.meta.now in
     let q : Query = query_of m.local m.peer c.args.octets.now in
     let d : Datagram = datagram_of m c.args.t3 c.args.octets.now in
@@ -52,7 +53,7 @@ write_reflection-len-requires-clause-peer c =
     (ends_same m.local m.peer c.args.octets.now _ p.1).1
 
 pub returns-in-Silent-Short-clause-answered : goal.returns-in-Silent-Short-clause-answered
-returns-in-Silent-Short-clause-answered c = λ t st.
+returns-in-Silent-Short-clause-answered c = λ t st own.
     let m = c.args.meta.now in
     let q : Query = query_of m.local m.peer c.args.octets.now in
     let d : Datagram = datagram_of m c.args.t3 c.args.octets.now in
@@ -65,7 +66,7 @@ returns-in-Silent-Short-clause-answered c = λ t st.
     arrived t t c.args.list.now d (Unsent causes.Short) c.args.out.now w.new.out w.result l st w.ensures.octets w.ensures.len
 
 pub returns-in-Silent-BadHmac-clause-answered : goal.returns-in-Silent-BadHmac-clause-answered
-returns-in-Silent-BadHmac-clause-answered c = λ t st.
+returns-in-Silent-BadHmac-clause-answered c = λ t st own.
     let m = c.args.meta.now in
     let q : Query = query_of m.local m.peer c.args.octets.now in
     let d : Datagram = datagram_of m c.args.t3 c.args.octets.now in
@@ -78,7 +79,7 @@ returns-in-Silent-BadHmac-clause-answered c = λ t st.
     arrived t t c.args.list.now d (Unsent causes.BadHmac) c.args.out.now w.new.out w.result l st w.ensures.octets w.ensures.len
 
 pub returns-in-Silent-NoReply-clause-answered : goal.returns-in-Silent-NoReply-clause-answered
-returns-in-Silent-NoReply-clause-answered c = λ t st.
+returns-in-Silent-NoReply-clause-answered c = λ t st own.
     let m = c.args.meta.now in
     let q : Query = query_of m.local m.peer c.args.octets.now in
     let d : Datagram = datagram_of m c.args.t3 c.args.octets.now in
@@ -91,7 +92,7 @@ returns-in-Silent-NoReply-clause-answered c = λ t st.
     arrived t t c.args.list.now d (Unsent causes.NoReply) c.args.out.now w.new.out w.result l st w.ensures.octets w.ensures.len
 
 pub returns-in-Reflect-clause-answered : goal.returns-in-Reflect-clause-answered
-returns-in-Reflect-clause-answered c = λ t st.
+returns-in-Reflect-clause-answered c = λ t st own.
     let m = c.args.meta.now in
     let q : Query = query_of m.local m.peer c.args.octets.now in
     let d : Datagram = datagram_of m c.args.t3 c.args.octets.now in
@@ -106,5 +107,5 @@ returns-in-Reflect-clause-answered c = λ t st.
     let w = c.write_reflection-len in
     arrived t (with_sessions t (update at.0.key raised t.sessions)) _ d (Sent (sending t.locals at.0 d)) c.args.out.now w.new.out w.result l
     (at.1.changed raised _ (raised-count old _ at.0 here refl refl refl refl))
-    (w.ensures.octets t.locals at.0 at.1.stands)
-    (w.ensures.len t.locals at.0 at.1.stands)
+    (w.ensures.octets at.0 at.1.stands ∙ ap (λ (ls : List Endpoint). answer_octets (Sent (sending ls at.0 d)) ++ drop w.result c.args.out.now) own)
+    (w.ensures.len at.0 at.1.stands ∙ ap (λ (ls : List Endpoint). length (answer_octets (Sent (sending ls at.0 d)))) own)

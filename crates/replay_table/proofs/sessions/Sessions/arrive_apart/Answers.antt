@@ -13,4 +13,4 @@ returns-clause-answered c = λ t st.
     let listed = subst (λ (l : List Session). SessionsStand l t.sessions) (sym c.deref_mut.ensures.value) was.within.sessions in
     let kept = with_items_is c.self.inside.list c.arrive.new.list (c.arrive.auto.list ∙ c.deref_mut.ensures.len) in
     arrived_all t _ _ d c.args.out.now c.arrive.new.out c.arrive.result was refl refl
-    (subst (λ (l : List Session). IsArrived t l d c.args.out.now c.arrive.new.out c.arrive.result) (sym kept) (c.arrive.ensures.answered t listed))
+    (subst (λ (l : List Session). IsArrived t l d c.args.out.now c.arrive.new.out c.arrive.result) (sym kept) (c.arrive.ensures.answered t listed was.locals))
