@@ -6,7 +6,8 @@ import sys
 
 MODES = ("plain", "authenticated", "TWAMP")
 OPENINGS = ("opened", "duplicate", "clash of modes", "full", "rows full", "no key")
-SILENT = {1: "no session", 2: "short", 3: "bad HMAC"}
+SETTINGS = {0: "set", 4: "rows full", 5: "no key", 6: "no such session"}
+SILENT = {1: "no session", 2: "short", 3: "bad HMAC", 7: "none was asked for"}
 ENDS = {
     0: "all of the input is records", 2: "the words are no command", 4: "no memory",
     6: "the input leaves the grammar", 7: "a read failed", 8: "a write failed",
@@ -114,6 +115,24 @@ class Sessions:
         ]
         return given, [OPENINGS[answer[0]]]
 
+    def set_lines(self, body, answer):
+        given = [
+            f"SET {MODES[body[21]]}, SSID {number(body[22:24])}",
+            f"local {number(body[:2])}, peer {endpoint(body[2:21])}",
+            f"multiplier {body[27]}" + (", with a key" if body[24] & 4 else ""),
+        ]
+        return given, [SETTINGS[answer[0]]]
+
+    def close_lines(self, body, answer):
+        given = [
+            f"CLOSE {MODES[body[21]]}, SSID {number(body[22:24])}",
+            f"local {number(body[:2])}, peer {endpoint(body[2:21])}",
+        ]
+        return given, ["no such session" if answer[0] else f"closed, {number(answer[1:])} numbers drawn"]
+
+    def locals_lines(self, body, answer):
+        return ["LOCALS", *(endpoint(body[at : at + 19]) for at in range(1, len(body), 19))], ["listed"]
+
     def datagram_lines(self, body, answer):
         mode = self.modes.get(body[:21], 0)
         octets = body[39:]
@@ -157,10 +176,12 @@ def main():
     for (told, answer), (tag, body) in zip(records(ended.stdout), given):
         if told == 0xFF:
             print(f"  the stream leaves its grammar at octet {number(answer)}\n")
-        elif tag == 1:
-            beside(*sessions.open_lines(body, answer))
         else:
-            beside(*sessions.datagram_lines(body, answer))
+            lines = {
+                1: sessions.open_lines, 2: sessions.set_lines, 3: sessions.close_lines,
+                4: sessions.datagram_lines, 5: sessions.locals_lines,
+            }
+            beside(*lines[tag](body, answer))
     end = ENDS.get(ended.returncode, "the program was stopped")
     print(f"{len(ended.stdout)} octets of answers, status {ended.returncode}: {end}")
     return ended.returncode

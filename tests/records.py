@@ -14,6 +14,7 @@ TIMESTAMP = bytes.fromhex("83AA7E80FFFFFFFB")
 PLAIN_REQUEST = bytes.fromhex("00000005 1122334455667788 0001 0007") + bytes(28)
 TWAMP_REQUEST = PLAIN_REQUEST[:14]
 NO_SESSION, SHORT, BAD_HMAC = 1, 2, 3
+DUPLICATE, MODE_CLASH, FULL, ROWS_FULL, NO_KEY, NO_SUCH = 1, 2, 3, 4, 5, 6
 
 
 def record(tag, body):
@@ -27,8 +28,38 @@ def mac(octets):
 
 def opening(mode=PLAIN, ssid=7, ends=ENDS, extra=bytes(3), flags=1, rest=None, key=bytes(64)):
     """An Open: a stateful NTP session with multiplier 1, where nothing else is said."""
-    config = bytes([flags]) + (rest or bytes.fromhex("00 00 01 00000000 00000000")) + key
-    return record(1, ends + bytes([mode]) + ssid.to_bytes(2, "big") + extra + config)
+    return record(1, session_key(mode, ssid, ends) + extra + config(flags, rest, key))
+
+
+def session_key(mode=PLAIN, ssid=7, ends=ENDS):
+    return ends + bytes([mode]) + ssid.to_bytes(2, "big")
+
+
+def config(flags=1, rest=None, key=bytes(64)):
+    return bytes([flags]) + (rest or bytes.fromhex("00 00 01 00000000 00000000")) + key
+
+
+def informed(number):
+    """What stands behind the flags of a configuration whose Timestamp Information is this number."""
+    return bytes.fromhex("00 00 01") + number.to_bytes(4, "big") + bytes(4)
+
+
+def setting(mode=PLAIN, ssid=7, ends=ENDS, flags=1, rest=None, key=bytes(64)):
+    """A Set, of the configuration that an Open has where nothing else is said."""
+    return record(2, session_key(mode, ssid, ends) + config(flags, rest, key))
+
+
+def closing(mode=PLAIN, ssid=7, ends=ENDS):
+    return record(3, session_key(mode, ssid, ends))
+
+
+def local(last, port=862):
+    """An address of the reflector's own, 192.0.2.LAST."""
+    return b"\4\xc0\0\2" + bytes([last]) + bytes(12) + port.to_bytes(2, "big")
+
+
+def listing(*locals_given):
+    return record(5, bytes([len(locals_given)]) + b"".join(locals_given))
 
 
 def datagram(packet, ends=ENDS, ttl=b"\0\0"):
@@ -37,6 +68,19 @@ def datagram(packet, ends=ENDS, ttl=b"\0\0"):
 
 def opened(code=0):
     return record(0x81, bytes([code]))
+
+
+def was_set(code=0):
+    return record(0x82, bytes([code]))
+
+
+def closed(count=None):
+    """The answer to a Close; None is that no session has the key."""
+    return record(0x83, bytes([NO_SUCH]) if count is None else b"\0" + count.to_bytes(4, "big"))
+
+
+def listed():
+    return record(0x85, b"\0")
 
 
 def silent(code):

@@ -280,9 +280,7 @@ DATAGRAM_FAMILY, DATAGRAM_ADDRESS, DATAGRAM_TTL = 7, 8, 26
 
 OUTSIDE = [
     ("tag 0", b"\0" + opening()[1:]),
-    ("tag 2", record(2, bytes(100))),
-    ("tag 3", record(3, bytes(24))),
-    ("tag 5", record(5, bytes(24))),
+    ("tag 6", record(6, bytes(24))),
     ("the tag of an answer", opened()),
     ("an Open of 102 octets", record(1, opening()[5:-1])),
     ("an Open of 104 octets", record(1, opening()[5:] + b"\0")),
@@ -307,6 +305,23 @@ OUTSIDE = [
     ("TLV type 31 as a supported one", changed(opening(), OPEN_TLVS, b"\x80")),
     ("a key block without its flag", changed(opening(), OPEN_KEY, b"\1")),
     ("the last octet of a key block without its flag", changed(opening(), OPEN_KEY + 63, b"\1")),
+    ("a Set of 99 octets", record(2, setting()[5:-1])),
+    ("a Set of 101 octets", record(2, setting()[5:] + b"\0")),
+    ("a Set with multiplier 0", setting(rest=bytes(11))),
+    ("a Set of mode 3", setting(mode=3)),
+    ("a Set of a TWAMP session with an SSID", setting(mode=TWAMP, ssid=1)),
+    ("a Close of 23 octets", record(3, closing()[5:-1])),
+    ("a Close of 25 octets", record(3, closing()[5:] + b"\0")),
+    ("a Close of mode 3", closing(mode=3)),
+    ("a Close of a TWAMP session with an SSID", closing(mode=TWAMP, ssid=1)),
+    ("a list without a count", record(5, b"")),
+    ("a list whose length has room for half an address", record(5, b"\1" + local(1)[:9])),
+    ("a list of 17 addresses", listing(*map(local, range(17)))),
+    ("a list that counts one address more", record(5, b"\2" + local(1))),
+    ("a list that counts one address fewer", record(5, b"\0" + local(1))),
+    ("a list with an address twice", listing(local(1), local(2), local(1))),
+    ("a list with port 0", listing(local(1), local(2, port=0))),
+    ("a list with family 5", listing(b"\5" + local(1)[1:])),
     ("a datagram record of 38 octets", record(4, datagram(b"")[5:-1])),
     ("a datagram of 65,508 octets", datagram(bytes(65_508))),
     ("a datagram of family 7", changed(datagram(PLAIN_REQUEST), DATAGRAM_FAMILY, b"\7")),
@@ -341,7 +356,42 @@ def the_ends_of_each_field_stay_within_the_grammar(program):
         found = replay(program, within)
         if found != (opened(), 0):
             return f"{what}: {found[0].hex()} and status {found[1]}"
+    for what, within, answer in (
+        ("a Set of port 0", setting(ends=ENDS[:19] + bytes(2)), was_set(NO_SUCH)),
+        ("a Set of a TWAMP session", setting(TWAMP, 0), was_set(NO_SUCH)),
+        ("a Close of port 0", closing(ends=ENDS[:19] + bytes(2)), closed()),
+        ("a Close of SSID 65,535", closing(ssid=65_535), closed()),
+        ("16 addresses", listing(*map(local, range(16))), listed()),
+        ("one address with 16 ports", listing(*(local(1, 1 + port) for port in range(16))), listed()),
+        ("port 65,535 and an IPv6 address of zeros", listing(local(1, 65_535), b"\6" + bytes(16) + b"\3\x5e"), listed()),
+    ):
+        found = replay(program, within)
+        if found != (answer, 0):
+            return f"{what}: {found[0].hex()} and status {found[1]}"
     return None
+
+
+@case
+def records_that_change_a_session_may_be_cut_anywhere(program):
+    for what, last, answer in (
+        ("a Set", setting(), was_set()),
+        ("a Close", closing(), closed(0)),
+        ("a list", listing(local(1), local(2)), listed()),
+    ):
+        for length in range(1, len(last) + 1):
+            whole = length == len(last)
+            wanted = (opened() + (answer if whole else grammar_left(108)), 0 if whole else 6)
+            found = replay(program, opening() + last[:length])
+            if found != wanted:
+                return f"{what} cut to {length} octets: {found[0].hex()} and status {found[1]}"
+    return None
+
+
+@case
+def an_address_that_comes_twice_is_told_before_the_list_ends(program):
+    process = start(program)
+    process.stdin.write(listing(local(1), local(1), local(2))[: 6 + 2 * 19])
+    return differs("the output", process.stdout.read(), grammar_left(0)) or ends(process, 6)
 
 
 @case
@@ -431,6 +481,90 @@ def just_1024_sessions_are_live_at_once(program):
         wanted += reflected(0, plain_reply(0, ssid=ssid))
     found, status = replay(program, given)
     return differs("the output", found, wanted) or (None if status == 0 else f"status {status}")
+
+
+@case
+def just_1024_configurations_are_accepted(program):
+    given, wanted = opening(rest=informed(0)), opened()
+    for number in range(1, 1024):
+        given += setting(rest=informed(number))
+        wanted += was_set()
+    other_peer = ENDS[:6] + b"\2" + ENDS[7:]
+    for record_given, answer in (
+        (setting(rest=informed(1024)), was_set(ROWS_FULL)),
+        (setting(rest=informed(5)), was_set()),
+        (setting(ssid=8, rest=informed(1024)), was_set(NO_SUCH)),
+        (opening(ends=other_peer, rest=informed(1024)), opened(ROWS_FULL)),
+        (opening(AUTHENTICATED, ends=other_peer, rest=informed(1024)), opened(NO_KEY)),
+        (opening(TWAMP, 0, rest=informed(1024)), opened(MODE_CLASH)),
+        (opening(rest=informed(1024)), opened(DUPLICATE)),
+        (opening(AUTHENTICATED, ends=other_peer, flags=5, key=KEY), opened(ROWS_FULL)),
+        (opening(ssid=8, rest=informed(1023)), opened()),
+        (closing(), closed(0)),
+        (closing(ssid=8), closed(0)),
+        # What was accepted stays so, whether a session has it or not.
+        (opening(rest=informed(1024)), opened(ROWS_FULL)),
+        (opening(rest=informed(77)), opened()),
+    ):
+        given += record_given
+        wanted += answer
+    found, status = replay(program, given)
+    return differs("the output", found, wanted) or (None if status == 0 else f"status {status}")
+
+
+@case
+def an_opening_that_is_refused_counts_no_configuration(program):
+    given = b"".join(opening(ssid=ssid, rest=informed(ssid % 1023)) for ssid in range(1024))
+    wanted = opened() * 1024
+    for record_given, answer in (
+        (opening(ssid=2000, rest=informed(5000)), opened(FULL)),
+        (setting(AUTHENTICATED, 0, rest=informed(5001)), was_set(NO_SUCH)),
+        (setting(ssid=0, rest=informed(5002)), was_set()),
+        (setting(ssid=0, rest=informed(5000)), was_set(ROWS_FULL)),
+        # With both at an end the configuration is told first.
+        (opening(ssid=2000, rest=informed(5000)), opened(ROWS_FULL)),
+        (opening(ssid=2000, rest=informed(5002)), opened(FULL)),
+    ):
+        given += record_given
+        wanted += answer
+    found, status = replay(program, given)
+    return differs("the output", found, wanted) or (None if status == 0 else f"status {status}")
+
+
+@case
+def a_key_is_opened_and_closed_70000_times(program):
+    found, status = replay(program, (opening() + closing()) * 70_000)
+    wanted = (opened() + closed(0)) * 70_000
+    return differs("the output", found, wanted) or (None if status == 0 else f"status {status}")
+
+
+@case
+def a_closed_session_has_no_datagrams(program):
+    request, other = datagram(PLAIN_REQUEST), PLAIN_REQUEST[:14] + b"\0\x08" + PLAIN_REQUEST[16:]
+    given = opening() + opening(ssid=8) + request * 2 + closing() + request + datagram(other) + opening() + request
+    wanted = (
+        opened() * 2 + reflected(0, plain_reply(0)) + reflected(1, plain_reply(1)) + closed(2)
+        + silent(NO_SESSION) + reflected(0, plain_reply(0, ssid=8)) + opened() + reflected(0, plain_reply(0))
+    )
+    found, status = replay(program, given)
+    return differs("the output", found, wanted) or (None if status == 0 else f"status {status}")
+
+
+@case
+def a_session_may_be_set_to_another_key(program):
+    other = bytes(range(17, 49)) + bytes(32)
+    signed = datagram(authenticated_request())
+    for what, change, answers in (
+        ("another key", setting(AUTHENTICATED, flags=5, key=other), was_set() + silent(BAD_HMAC)),
+        ("no key", setting(AUTHENTICATED), was_set(NO_KEY) + reflected(1, authenticated_reply(1))),
+        ("its key", setting(AUTHENTICATED, flags=5, key=KEY), was_set() + reflected(1, authenticated_reply(1))),
+    ):
+        given = opening(AUTHENTICATED, flags=5, key=KEY) + signed + change + signed
+        wanted = (opened() + reflected(0, authenticated_reply(0)) + answers, 0)
+        found = replay(program, given)
+        if found != wanted:
+            return f"{what}: {found[0].hex()} and status {found[1]}"
+    return None
 
 
 @case

@@ -17,7 +17,8 @@ use Rattle.replay_format.specs.View.{IsFront}
 use Rattle.replay_format.specs.declared.whole.Family.{Family}
 use Rattle.replay_format.specs.declared.whole.Family.TheVariants.{Any, Ipv4, Ipv6}
 use Rattle.replay_format.specs.Whole.{HasAddress, HasHead, is_asked, IsAsked}
-use Rattle.replay_format.proofs.Formats.{address_octets_length, datagram_length}
+use Rattle.session_octets.proofs.Formats.{address_octets_length}
+use Rattle.replay_format.proofs.Formats.{ttl_octets_length, datagram_length}
 
 pub field_64 : (at : ℕ) (octets : List ℕ) → IsBytes octets → at + 8 ≤ length octets → to_be_bytes w64 (from_be_bytes w64 (field at 8 octets)) ≡ field at 8 octets
 field_64 at octets bytes le = be_bytes_8 (field at 8 octets) (from_be_bytes w64 (field at 8 octets)) (length-field at 8 octets le) (IsBytes-take 8 (drop at octets) (IsBytes-drop at octets bytes)) refl
@@ -161,10 +162,6 @@ part front p rest octets at n here len = ap (λ (l : List ℕ). take n (drop at 
 behind : (front p rest octets : List ℕ) (at n next : ℕ) → At front (p ++ rest) octets at → length p ≡ n → at + n ≡ next → At (front ++ p) rest octets next
 behind front p rest octets at n next here len sum = record { parts = here.parts ∙ sym (append_assoc front p rest); len = omega (arith, length-append front p, here.len, len, sum) }
 
-ttl_length : (ttl : Option ℕ) → length (ttl_octets ttl) ≡ 2
-ttl_length None = refl
-ttl_length (Some n) = refl
-
 -- what is told of a datagram besides its octets
 abbrev pub told : Datagram → Meta
 told d = record { local = d.local; peer = d.peer; len = length d.octets; ttl = d.ttl; arrival = d.arrival }
@@ -195,7 +192,7 @@ parts_of octets d n f =
     let la : length a ≡ 17 = ap (λ (m : ℕ). suc m) (address_octets_length d.peer.address fits.peer.address) in
     let s24 = behind (((4 ∷ []) ++ b) ++ c) a (g ++ (h ++ (i ++ (j ++ (d.octets ++ rest))))) octets 7 17 24 s7 la refl in
     let s26 = behind ((((4 ∷ []) ++ b) ++ c) ++ a) g (h ++ (i ++ (j ++ (d.octets ++ rest)))) octets 24 2 26 s24 refl refl in
-    let s28 = behind (((((4 ∷ []) ++ b) ++ c) ++ a) ++ g) h (i ++ (j ++ (d.octets ++ rest))) octets 26 2 28 s26 (ttl_length d.ttl) refl in
+    let s28 = behind (((((4 ∷ []) ++ b) ++ c) ++ a) ++ g) h (i ++ (j ++ (d.octets ++ rest))) octets 26 2 28 s26 (ttl_octets_length d.ttl) refl in
     let body : length (datagram_octets d) < 2 ^ 32 = omega (arith, size, fits.len) in
     record {
       long = omega (arith, f.len, size, ap length f.spelled, length-append (spelling (Arrives d)) rest);
@@ -206,7 +203,7 @@ parts_of octets d n f =
         local = sym (ap (from_be_bytes w16) (part ((4 ∷ []) ++ b) c (a ++ (g ++ (h ++ (i ++ (j ++ (d.octets ++ rest)))))) octets 5 2 s5 refl) ∙ from_be_bytes-to_be_bytes_2 d.local fits.local);
         address = record { spelled = part (((4 ∷ []) ++ b) ++ c) a (g ++ (h ++ (i ++ (j ++ (d.octets ++ rest))))) octets 7 17 s7 la; fits = fits.peer.address };
         port = sym (ap (from_be_bytes w16) (part ((((4 ∷ []) ++ b) ++ c) ++ a) g (h ++ (i ++ (j ++ (d.octets ++ rest)))) octets 24 2 s24 refl) ∙ from_be_bytes-to_be_bytes_2 d.peer.port fits.peer.port);
-        ttl = part (((((4 ∷ []) ++ b) ++ c) ++ a) ++ g) h (i ++ (j ++ (d.octets ++ rest))) octets 26 2 s26 (ttl_length d.ttl);
+        ttl = part (((((4 ∷ []) ++ b) ++ c) ++ a) ++ g) h (i ++ (j ++ (d.octets ++ rest))) octets 26 2 s26 (ttl_octets_length d.ttl);
         arrival = sym (ap (from_be_bytes w64) (part ((((((4 ∷ []) ++ b) ++ c) ++ a) ++ g) ++ h) i (j ++ (d.octets ++ rest)) octets 28 8 s28 refl) ∙ from_be_bytes-to_be_bytes_8 d.arrival fits.arrival);
         len = refl;
       };

@@ -1,10 +1,14 @@
 -- Each record has one answer, and each answer one spelling.
-use Rattle.std.specs.Prelude.{ℕ, ◌+◌, ◌≤◌, List, [], ◌∷◌, ◌++◌, length}
+use Rattle.std.specs.Prelude.{ℕ, ◌+◌, ◌≤◌, List, [], ◌∷◌, ◌++◌, length, Option, Some, None}
 use Rattle.std.specs.Int.{w16, w32, w64, to_be_bytes}
 use Rattle.refl_types.specs.declared.types.Endpoint.{Endpoint}
 use Rattle.refl_types.specs.Spelling.{endpoint_octets}
+use Rattle.replay_format.specs.declared.code.OpenAnswer.{OpenAnswer}
+use Rattle.replay_format.specs.declared.code.SetAnswer.{SetAnswer}
+use Rattle.replay_format.specs.declared.code.UnsentCause.{UnsentCause}
 use Rattle.replay_format.specs.declared.answer.Outcome.{Outcome}
 use Rattle.replay_format.specs.declared.answer.Outcome.TheVariants as outcomes
+use Rattle.replay_format.specs.Codes.{open_code, set_code, unsent_code}
 use Rattle.replay_format.specs.Records.{framed}
 
 -- a reply that is sent from a local number to an endpoint, under the number that was drawn
@@ -15,9 +19,13 @@ pub record Sending : Type 0 where
   pub octets : List ℕ
 
 pub data Answer : Type 0 where
-  Opened : ℕ → Answer
+  Opened : OpenAnswer → Answer
+  Set : SetAnswer → Answer
+  -- the count of numbers that the session had drawn, or no session has the key
+  Closed : Option ℕ → Answer
+  Listed : Answer
   Sent : Sending → Answer
-  Unsent : ℕ → Answer
+  Unsent : UnsentCause → Answer
   Left : ℕ → Answer
 
 abbrev pub sending_octets : Sending → List ℕ
@@ -26,29 +34,47 @@ sending_octets s = (0 ∷ to_be_bytes w16 s.from) ++ endpoint_octets s.to ++ to_
 unfoldable pub sent_octets : Sending → List ℕ
 sent_octets s = framed 132 (sending_octets s)
 
+-- 0 and the count, or 6
+abbrev pub closed_octets : Option ℕ → List ℕ
+closed_octets None = 6 ∷ []
+closed_octets (Some n) = 0 ∷ to_be_bytes w32 n
+
 unfoldable pub answer_octets : Answer → List ℕ
-answer_octets (Opened code) = framed 129 (code ∷ [])
+answer_octets (Opened a) = framed 129 (open_code a ∷ [])
+answer_octets (Set a) = framed 130 (set_code a ∷ [])
+answer_octets (Closed count) = framed 131 (closed_octets count)
+answer_octets Listed = framed 133 (0 ∷ [])
 answer_octets (Sent s) = sent_octets s
-answer_octets (Unsent code) = framed 132 (code ∷ [])
+answer_octets (Unsent cause) = framed 132 (unsent_code cause ∷ [])
 answer_octets (Left offset) = framed 255 (to_be_bytes w64 offset)
 
 -- how many octets an answer has
 abbrev pub answer_len : Answer → ℕ
-answer_len (Opened code) = 6
+answer_len (Opened a) = 6
+answer_len (Set a) = 6
+answer_len (Closed None) = 6
+answer_len (Closed (Some n)) = 10
+answer_len Listed = 6
 answer_len (Sent s) = 31 + length s.octets
-answer_len (Unsent code) = 6
+answer_len (Unsent cause) = 6
 answer_len (Left offset) = 13
 
 -- what an outcome of the code stands for
 abbrev pub answer_of : Outcome → Answer
-answer_of (outcomes.Opened code) = Opened code
+answer_of (outcomes.Opened a) = Opened a
+answer_of (outcomes.Set a) = Set a
+answer_of (outcomes.Closed count) = Closed count
+answer_of outcomes.Listed = Listed
 answer_of (outcomes.Sent from to number octets) = Sent (record { from = from; to = to; number = number; octets = octets.now })
-answer_of (outcomes.Unsent code) = Unsent code
+answer_of (outcomes.Unsent cause) = Unsent cause
 answer_of (outcomes.Left offset) = Left offset
 
 -- what has a spelling: no reply is longer than a datagram
 abbrev pub FitsAnswer : Answer → Type 0
 FitsAnswer (Sent s) = length s.octets ≤ 65507
-FitsAnswer (Opened code) = Unit {0}
-FitsAnswer (Unsent code) = Unit {0}
+FitsAnswer (Opened a) = Unit {0}
+FitsAnswer (Set a) = Unit {0}
+FitsAnswer (Closed count) = Unit {0}
+FitsAnswer Listed = Unit {0}
+FitsAnswer (Unsent cause) = Unit {0}
 FitsAnswer (Left offset) = Unit {0}

@@ -1,5 +1,6 @@
 pub mod Records
 pub mod Reading
 pub mod View
+pub mod Codes
 pub mod Answers
 pub mod Whole

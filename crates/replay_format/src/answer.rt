@@ -1,17 +1,27 @@
 //! Answers are written in octets.
 
-ghost use Rattle.std.specs.Prelude.{ℕ, List, ◌≡◌, ◌+◌, ◌≤◌, ◌++◌, length, take, drop};
+ghost use Rattle.std.specs.Prelude.{ℕ, List, ◌≡◌, ◌+◌, ◌≤◌, [], ◌∷◌, ◌++◌, length, take, drop};
+ghost use Rattle.replay_format.specs.Records.{framed};
 ghost use Rattle.replay_format.specs.Answers.{sent_octets, answer_of, answer_octets, answer_len, FitsAnswer};
 
-use crate::layout::{DATAGRAM_ANSWER_TAG, LEFT_TAG, OPENED_TAG, REPLY_FIELDS};
+use crate::code::{OpenAnswer, SetAnswer, UnsentCause};
+use crate::layout::{
+    CLOSED_TAG, DATAGRAM_ANSWER_TAG, LEFT_TAG, LISTED_TAG, OPENED_TAG, REPLY_FIELDS, SET_ANSWER_TAG,
+};
 use octet_format::put;
 use refl_types::Endpoint;
 
 /// What a record is answered.
 #[derive(Clone, Copy, Debug)]
 pub enum Outcome<'a> {
-    /// The answer to an Open, as one octet.
-    Opened(u8),
+    /// The answer to an Open.
+    Opened(OpenAnswer),
+    /// The answer to a Set.
+    Set(SetAnswer),
+    /// The answer to a Close: how many numbers the session had drawn, modulo 2^32, or that no session has the key.
+    Closed(Option<u32>),
+    /// The answer to a list of addresses.
+    Listed,
     /// A datagram is reflected: from which local number, to whom, under which number drawn, and with which octets.
     Sent {
         from: u16,
@@ -19,8 +29,8 @@ pub enum Outcome<'a> {
         number: u32,
         octets: &'a [u8],
     },
-    /// A datagram is not reflected: the cause, as one octet.
-    Unsent(u8),
+    /// A datagram is not reflected.
+    Unsent(UnsentCause),
     /// The stream left its grammar: the offset of the first octet of the record that isn't one.
     Left(u64),
 }
@@ -60,6 +70,19 @@ fn write_sent(from: u16, to: &Endpoint, number: u32, octets: &[u8], out: &mut [u
     REPLY_AT + octets.len()
 }
 
+/// What a Close is answered where no session has its key.
+const NO_SUCH: u8 = 6;
+
+/// Writes an answer whose body is one octet, and answers its length.
+fn write_octet(tag: u8, octet: u8, out: &mut [u8]) -> usize
+    requires { 6 ≤ length out.old }
+    ensures octets { out.new ≡ framed tag (octet ∷ []) ++ drop 6 out.old }
+    ensures len { result ≡ 6 }
+{
+    put(out, 0, &[tag, 0, 0, 0, 1, octet]);
+    6
+}
+
 /// Writes the one spelling of an outcome, and answers its length. Later octets stay.
 #[tactic(auto, unfolding(crate::specs::Answers::answer_octets))]
 pub fn write_outcome(outcome: &Outcome, out: &mut [u8]) -> usize
@@ -70,14 +93,16 @@ pub fn write_outcome(outcome: &Outcome, out: &mut [u8]) -> usize
     ensures count { result ≡ answer_len (answer_of outcome.now) }
 {
     match outcome {
-        Outcome::Opened(code) => {
-            put(out, 0, &[OPENED_TAG, 0, 0, 0, 1, *code]);
-            6
+        Outcome::Opened(answer) => write_octet(OPENED_TAG, answer.code(), out),
+        Outcome::Set(answer) => write_octet(SET_ANSWER_TAG, answer.code(), out),
+        Outcome::Closed(None) => write_octet(CLOSED_TAG, NO_SUCH, out),
+        Outcome::Closed(Some(count)) => {
+            put(out, 0, &[CLOSED_TAG, 0, 0, 0, 5, 0]);
+            put(out, 6, &count.to_be_bytes());
+            10
         }
-        Outcome::Unsent(code) => {
-            put(out, 0, &[DATAGRAM_ANSWER_TAG, 0, 0, 0, 1, *code]);
-            6
-        }
+        Outcome::Listed => write_octet(LISTED_TAG, 0, out),
+        Outcome::Unsent(cause) => write_octet(DATAGRAM_ANSWER_TAG, cause.code(), out),
         Outcome::Left(offset) => {
             put(out, 0, &[LEFT_TAG, 0, 0, 0, 8]);
             put(out, 5, &offset.to_be_bytes());

@@ -5,12 +5,13 @@ mod answer;
 mod code;
 mod fields;
 mod layout;
+mod locals;
 mod record;
 mod whole;
+mod writing;
 
 pub use answer::{Outcome, REPLY_AT, frame_reply, write_outcome};
-pub use code::{
-    BAD_HMAC, DUPLICATE, FULL, MODE_CLASH, NO_KEY, NO_REPLY, NO_SESSION, OPENED, SHORT,
-};
+pub use code::{OpenAnswer, SetAnswer, UnsentCause};
 pub use record::{Parsed, Record, one_record, read_record};
 pub use whole::{read_datagram, read_ipv4_datagram, read_ipv6_datagram};
+pub use writing::write_record;

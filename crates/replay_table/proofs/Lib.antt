@@ -4,3 +4,5 @@ pub mod PlaceFacts
 pub mod ReplyFacts
 pub mod EndFacts
 pub mod ApartFacts
+pub mod ConfigFacts
+pub mod ChangeFacts

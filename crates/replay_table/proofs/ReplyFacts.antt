@@ -1,5 +1,6 @@
 -- The reply under what the code keeps of a session is the reply of the session that it stands for.
-use Rattle.std.proofs.Common.{◌≡◌, ℕ, ◌%◌, ◌^◌, List, [], length, sym, ap, subst, ◌∙◌}
+use Rattle.std.proofs.Common.{◌≡◌, ℕ, ◌%◌, ◌^◌, List, length, sym, ap, subst, ◌∙◌}
+use Rattle.refl_types.specs.declared.types.Endpoint.{Endpoint}
 use Rattle.refl_types.specs.declared.types.Meta.{Meta}
 use Rattle.refl_types.specs.declared.types.Key.{Key}
 use Rattle.refl_types.specs.declared.types.Extra.{Extra}
@@ -18,16 +19,16 @@ use Rattle.replay_table.specs.Stands.{StandsFor}
 measured : (m : Meta) (t3 : ℕ) (octets : List ℕ) → m.len ≡ length octets → meta_of (datagram_of m t3 octets) ≡ m
 measured m t3 octets e = ap (λ (n : ℕ). let x : Meta = record { local = m.local; peer = m.peer; len = n; ttl = m.ttl; arrival = m.arrival } in x) (sym e)
 
-pub sending_is : (s : Session) (e : Entry) (m : Meta) (t3 : ℕ) (octets : List ℕ) → m.len ≡ length octets → StandsFor s e
-    → sending e (datagram_of m t3 octets) ≡ sent_under s.count (reflection s.key s.extra s.config (record { number = s.count; sending = t3 }) (record { meta = m; octets = octets; locals = [] }))
+pub sending_is : (locals : List Endpoint) (s : Session) (e : Entry) (m : Meta) (t3 : ℕ) (octets : List ℕ) → m.len ≡ length octets → StandsFor s e
+    → sending locals e (datagram_of m t3 octets) ≡ sent_under s.count (reflection s.key s.extra s.config (record { number = s.count; sending = t3 }) (record { meta = m; octets = octets; locals = locals }))
 unfolding sending
-sending_is s e m t3 octets len stands =
+sending_is locals s e m t3 octets len stands =
     let n : ℕ = e.count % 2 ^ 32 in
-    ap (λ (x : Meta). sent_under n (reflection e.key e.extra e.config (record { number = n; sending = t3 }) (record { meta = x; octets = octets; locals = [] }))) (measured m t3 octets len)
-    ∙ ap (λ (i : ℕ). sent_under i (reflection e.key e.extra e.config (record { number = i; sending = t3 }) (record { meta = m; octets = octets; locals = [] }))) (sym stands.count)
-    ∙ ap (λ (k : Key). sent_under s.count (reflection k e.extra e.config (record { number = s.count; sending = t3 }) (record { meta = m; octets = octets; locals = [] }))) (sym stands.key)
-    ∙ ap (λ (x : Extra). sent_under s.count (reflection s.key x e.config (record { number = s.count; sending = t3 }) (record { meta = m; octets = octets; locals = [] }))) (sym stands.extra)
-    ∙ ap (λ (c : ConfigParts). sent_under s.count (reflection s.key s.extra c (record { number = s.count; sending = t3 }) (record { meta = m; octets = octets; locals = [] }))) (sym stands.config)
+    ap (λ (x : Meta). sent_under n (reflection e.key e.extra e.config (record { number = n; sending = t3 }) (record { meta = x; octets = octets; locals = locals }))) (measured m t3 octets len)
+    ∙ ap (λ (i : ℕ). sent_under i (reflection e.key e.extra e.config (record { number = i; sending = t3 }) (record { meta = m; octets = octets; locals = locals }))) (sym stands.count)
+    ∙ ap (λ (k : Key). sent_under s.count (reflection k e.extra e.config (record { number = s.count; sending = t3 }) (record { meta = m; octets = octets; locals = locals }))) (sym stands.key)
+    ∙ ap (λ (x : Extra). sent_under s.count (reflection s.key x e.config (record { number = s.count; sending = t3 }) (record { meta = m; octets = octets; locals = locals }))) (sym stands.extra)
+    ∙ ap (λ (c : ConfigParts). sent_under s.count (reflection s.key s.extra c (record { number = s.count; sending = t3 }) (record { meta = m; octets = octets; locals = locals }))) (sym stands.config)
 
 -- what is lent of a session reflects and judges as the session
 

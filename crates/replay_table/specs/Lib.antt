@@ -1,3 +1,4 @@
+pub mod Configs
 pub mod Table
 pub mod Reflection
 pub mod Outcomes

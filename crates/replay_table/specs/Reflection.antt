@@ -1,5 +1,6 @@
 -- The reply to a datagram of a session, under the count of the session.
-use Rattle.std.specs.Prelude.{ℕ, ◌%◌, ◌^◌, [], length}
+use Rattle.std.specs.Prelude.{ℕ, ◌%◌, ◌^◌, List, length}
+use Rattle.refl_types.specs.declared.types.Endpoint.{Endpoint}
 use Rattle.refl_types.specs.declared.types.Meta.{Meta}
 use Rattle.reflect_core.specs.Reflection.{Reflected, reflection}
 use Rattle.replay_format.specs.Records.{Datagram}
@@ -14,6 +15,6 @@ meta_of d = record { local = d.local; peer = d.peer; len = length d.octets; ttl 
 abbrev pub sent_under : ℕ → Reflected → Sending
 sent_under n r = record { from = r.from; to = r.to; number = n; octets = r.octets }
 
--- The number is the count modulo 2^32. A replay has no list of local addresses.
-unfoldable pub sending : Entry → Datagram → Sending
-sending e d = sent_under (e.count % 2 ^ 32) (reflection e.key e.extra e.config (record { number = e.count % 2 ^ 32; sending = d.t3 }) (record { meta = meta_of d; octets = d.octets; locals = [] }))
+-- the number is the count modulo 2^32
+unfoldable pub sending : List Endpoint → Entry → Datagram → Sending
+sending locals e d = sent_under (e.count % 2 ^ 32) (reflection e.key e.extra e.config (record { number = e.count % 2 ^ 32; sending = d.t3 }) (record { meta = meta_of d; octets = d.octets; locals = locals }))

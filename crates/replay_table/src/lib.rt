@@ -1,7 +1,10 @@
 //! The sessions of a replay, and what each record is answered.
 #![tactic(auto)]
 
+mod accepting;
+mod changing;
 mod laws;
+mod opening;
 mod reply;
 mod session;
 mod sessions;

@@ -1,26 +1,22 @@
 //! The sessions of a replay.
 
-ghost use Rattle.std.specs.Prelude.{ℕ, ◌≡◌, ◌≢◌, ◌<◌, ◌≤◌, ◌==◌, ◌&&◌, ◌++◌, not, [], ◌∷◌, drop, length, vec_len, vec_capacity, position, IfOk};
-ghost use Rattle.std.specs.List.{list_any};
-ghost use Rattle.refl_types.specs.Same.{same_endpoint, same_mode, same_key};
+ghost use Rattle.std.specs.Prelude.{ℕ, ◌≡◌, ◌≤◌, ◌++◌, [], drop, length, position, IfOk};
 ghost use Rattle.session_key.specs.Matching.{query_of, matches};
-ghost use Rattle.refl_types.specs.declared.types.Extra.{Extra};
-ghost use Rattle.replay_table.specs.Outcomes.{code_of, opening_code};
-ghost use Rattle.replay_format.specs.Records.{Opens, Arrives, datagram_of};
+ghost use Rattle.replay_format.specs.declared.code.UnsentCause as causes;
+ghost use Rattle.replay_format.specs.Records.{Arrives, datagram_of};
 ghost use Rattle.replay_format.specs.Answers.{Unsent, answer_octets};
-ghost use Rattle.refl_types.specs.HmacKey.{HasHmacKey};
-ghost use Rattle.replay_table.specs.Table.{Table};
-ghost use Rattle.replay_table.specs.Stands.{Stands, IsAnswered};
+ghost use Rattle.replay_table.specs.Table.{Table, empty_table};
+ghost use Rattle.replay_table.specs.Stands.{SessionsStand, Stands, IsArrived, IsAnswered};
 
+use crate::accepting::CONFIGS;
+use crate::changing::{close, set};
+use crate::opening::open;
 use crate::reply::write_reflection;
 use crate::session::Session;
-use keyed_config::KeyedConfig;
-use refl_types::{Config, Extra, Key, Memory, Meta, Mode, Silent};
+use config_rows::RowBook;
+use refl_types::{Address, LocalAddr, Memory, Meta, Silent};
 use reflect_core::Judged;
-use replay_format::{
-    BAD_HMAC, DUPLICATE, FULL, MODE_CLASH, NO_KEY, NO_REPLY, NO_SESSION, OPENED, Outcome, Record,
-    SHORT, write_outcome,
-};
+use replay_format::{Outcome, Record, UnsentCause, write_outcome};
 use session_key::Arrival;
 use std::alloc::Global;
 use std::marker::Model;
@@ -31,48 +27,32 @@ pub const SESSIONS: usize = 1024;
 /// Octets that an answer has room in while it is written.
 pub const ANSWER_ROOM: usize = 65_567;
 
-/// The sessions, in the order in which they were opened.
+/// What stands in the places of local addresses that are free.
+const NO_LOCAL: LocalAddr = LocalAddr {
+    address: Address::V4([0; 4]),
+    port: 0,
+};
+
+/// The sessions in the order in which they were opened, the configurations that were accepted, and the reflector's own
+/// addresses.
 #[derive(Drop)]
 pub struct Sessions {
     list: Vec<Session>,
+    book: RowBook,
+    locals: [LocalAddr; 16],
+    local_count: u8,
 }
 
 impl Model for Sessions {
-    ghost use Rattle.std.specs.Prelude.{◌≤◌, List, vec_len, vec_capacity};
-    ghost use Rattle.replay_table.specs.declared.session.Session.{Session};
+    ghost use Rattle.std.specs.Prelude.{◌≡◌, ◌≤◌, take, vec_len, vec_capacity};
     ghost use Rattle.replay_table.specs.declared.sessions.TheConstants.{SESSIONS};
+    ghost use Rattle.replay_table.specs.Stands.{Kept};
 
-    ghost Value = { List Session };
+    ghost Value = { Kept };
 
-    ghost view = { λ s. s.list.items };
+    ghost view = { λ s. record { sessions = s.list.items; rows = s.book; locals = take s.local_count s.locals } };
 
-    ghost invariant = { λ s. (vec_len s.list ≤ SESSIONS) × (SESSIONS ≤ vec_capacity s.list) };
-}
-
-#[tactic(auto, unfolding(refl_types::specs::Same::same_key))]
-fn same_key(a: &Key, b: &Key) -> bool
-    ensures { result ≡ same_key a.now b.now }
-{
-    a == b
-}
-
-fn is_bound(list: &[Session], key: &Key) -> bool
-    ensures { result ≡ list_any (λ s. same_key s.key key.now) list.now }
-{
-    list.iter().any(|session| same_key(&session.key, key))
-}
-
-/// Whether a key has the same ends as another, in another mode.
-fn clashes(a: &Key, b: &Key) -> bool
-    ensures { result ≡ (a.now.local == b.now.local && same_endpoint a.now.peer b.now.peer && not (same_mode a.now.mode b.now.mode)) }
-{
-    a.local == b.local && a.peer == b.peer && a.mode != b.mode
-}
-
-fn has_clash(list: &[Session], key: &Key) -> bool
-    ensures { result ≡ list_any (λ s. s.key.local == key.now.local && same_endpoint s.key.peer key.now.peer && not (same_mode s.key.mode key.now.mode)) list.now }
-{
-    list.iter().any(|session| clashes(&session.key, key))
+    ghost invariant = { λ s. (vec_len s.list ≤ SESSIONS) × (SESSIONS ≤ vec_capacity s.list) × (s.book.limit ≡ 1024) × (s.local_count ≤ 16) };
 }
 
 /// The place of the session that a datagram matches.
@@ -89,53 +69,9 @@ fn place_of(list: &[Session], meta: &Meta, octets: &[u8]) -> Option<usize>
     None
 }
 
-/// The code of an opening, by what is known of its key.
-#[tactic(auto, unfolding(crate::specs::Outcomes::code_of))]
-fn code_of(bound: bool, clash: bool, count: usize, key: &Key, config: &Config) -> u8
-    ensures value { (x : Extra) → result ≡ code_of bound clash count (record { key = key.now; extra = x; config = config.now }) }
-    ensures room { result ≡ 0 → count ≢ SESSIONS }
-    ensures keyed { result ≡ 0 → HasHmacKey key.now.mode config.now }
-{
-    if bound {
-        DUPLICATE
-    } else if clash {
-        MODE_CLASH
-    } else if matches!(key.mode, Mode::Auth) && config.as_parts().key.is_none() {
-        NO_KEY
-    } else if count == SESSIONS {
-        FULL
-    } else {
-        OPENED
-    }
-}
-
-/// The code that an opening is answered with.
-fn opening_code(list: &[Session], key: &Key, config: &Config) -> u8
-    ensures value { (x : Extra) (t : Table) → Stands list.now t → result ≡ opening_code t (record { key = key.now; extra = x; config = config.now }) }
-    ensures room { result ≡ 0 → length list.now ≢ SESSIONS }
-    ensures keyed { result ≡ 0 → HasHmacKey key.now.mode config.now }
-{
-    let bound = is_bound(list, key);
-    let clash = has_clash(list, key);
-    code_of(bound, clash, list.len(), key, config)
-}
-
-/// Keeps a session in a list that has room for it.
-fn keep(list: &mut Vec<Session>, session: Session)
-    requires len { vec_len list.old < SESSIONS }
-    requires room { SESSIONS ≤ vec_capacity list.old }
-    ensures items { list.new.items ≡ list.old.items ++ session ∷ [] }
-    ensures len { vec_len list.new ≤ SESSIONS }
-    ensures room { SESSIONS ≤ vec_capacity list.new }
-{
-    if list.push(session).is_err() {
-        unreachable!();
-    }
-}
-
 /// Writes why a datagram is not reflected.
 #[cold]
-fn write_unsent(cause: u8, out: &mut [u8]) -> usize
+fn write_unsent(cause: UnsentCause, out: &mut [u8]) -> usize
     requires { ANSWER_ROOM ≤ length out.old }
     ensures octets { out.new ≡ answer_octets (Unsent cause) ++ drop result out.old }
     ensures len { result ≡ length (answer_octets (Unsent cause)) }
@@ -146,23 +82,31 @@ fn write_unsent(cause: u8, out: &mut [u8]) -> usize
 
 /// Answers a datagram.
 #[inline(always)]
-fn arrive(list: &mut [Session], meta: &Meta, t3: u64, octets: &[u8], out: &mut [u8]) -> usize
+fn arrive(
+    list: &mut [Session],
+    locals: &[LocalAddr],
+    meta: &Meta,
+    t3: u64,
+    octets: &[u8],
+    out: &mut [u8],
+) -> usize
     requires measured { meta.now.len ≡ length octets.now }
     requires limit { length octets.now ≤ 65507 }
+    requires locals { length locals.now ≤ 16 }
     requires room { ANSWER_ROOM ≤ length out.old }
     ensures fits { result ≤ 65538 }
-    ensures answered { (t : Table) → Stands list.old t → IsAnswered t list.new (Arrives (datagram_of meta.now t3 octets.now)) out.old out.new result }
+    ensures answered { (t : Table) → SessionsStand list.old t.sessions → locals.now ≡ t.locals → IsArrived t list.new (datagram_of meta.now t3 octets.now) out.old out.new result }
 {
     let Some(place) = place_of(list, meta, octets) else {
-        return write_unsent(NO_SESSION, out);
+        return write_unsent(UnsentCause::NoSession, out);
     };
     let session = &list[place];
     match session.reflector().judge(octets) {
-        Judged::Silent(Silent::Short) => write_unsent(SHORT, out),
-        Judged::Silent(Silent::BadHmac) => write_unsent(BAD_HMAC, out),
-        Judged::Silent(Silent::NoReply) => write_unsent(NO_REPLY, out),
+        Judged::Silent(Silent::Short) => write_unsent(UnsentCause::Short, out),
+        Judged::Silent(Silent::BadHmac) => write_unsent(UnsentCause::BadHmac, out),
+        Judged::Silent(Silent::NoReply) => write_unsent(UnsentCause::NoReply, out),
         Judged::Reflect => {
-            let len = write_reflection(session, meta, t3, octets, out);
+            let len = write_reflection(session, meta, t3, octets, locals, out);
             let session = &mut list[place];
             session.count = session.count.wrapping_add(1);
             len
@@ -170,42 +114,26 @@ fn arrive(list: &mut [Session], meta: &Meta, t3: u64, octets: &[u8], out: &mut [
     }
 }
 
-/// Answers an opening. The list has room for all sessions.
-fn open(list: &mut Vec<Session>, key: &Key, extra: &Extra, config: &Config, out: &mut [u8]) -> usize
-    requires out { ANSWER_ROOM ≤ length out.old }
-    requires len { vec_len list.old ≤ SESSIONS }
-    requires room { SESSIONS ≤ vec_capacity list.old }
-    ensures answered { (t : Table) → Stands list.old.items t → IsAnswered t list.new.items (Opens (record { key = key.now; extra = extra.now; config = config.now })) out.old out.new result }
-    ensures fits { result ≤ 65538 }
-    ensures len { vec_len list.new ≤ SESSIONS }
-    ensures room { SESSIONS ≤ vec_capacity list.new }
-{
-    let code = opening_code(list, key, config);
-    if code != OPENED {
-        return write_outcome(&Outcome::Opened(code), out);
-    }
-    let session = Session {
-        key: *key,
-        extra: *extra,
-        config: KeyedConfig::of(config),
-        count: 0,
-    };
-    keep(list, session);
-    write_outcome(&Outcome::Opened(code), out)
-}
-
 impl Sessions {
     ghost use Rattle.replay_format.specs.Records.{Fits};
     ghost use Rattle.replay_format.specs.View.{item_of, IsMeasured};
 
-    /// No session, and room for as many as are kept.
+    /// No session, no configuration and no address, and room for as many as are kept.
     pub fn make(alloc: Global) -> Result<Sessions, Memory>
-        ensures { IfOk result (λ s. s ≡ []) }
+        ensures { IfOk result (λ s. Stands s empty_table) }
     {
-        match Vec::with_capacity(alloc, SESSIONS) {
-            Ok(list) => Ok(Sessions { list }),
-            Err(_) => Err(Memory),
-        }
+        let Ok(list) = Vec::with_capacity(alloc, SESSIONS) else {
+            return Err(Memory);
+        };
+        let Ok(book) = RowBook::make(alloc, CONFIGS) else {
+            return Err(Memory);
+        };
+        Ok(Sessions {
+            list,
+            book,
+            locals: [NO_LOCAL; 16],
+            local_count: 0,
+        })
     }
 
     /// Writes the answer to a datagram at the front, as `answer` does to its record. Its reply leaves at `t3`, in
@@ -218,7 +146,8 @@ impl Sessions {
         ensures answered { (t : Table) → Stands self.old t → IsAnswered t self.new (Arrives (datagram_of meta.now t3 octets.now)) out.old out.new result }
         ensures fits { result ≤ 65538 }
     {
-        arrive(&mut self.list, meta, t3, octets, out)
+        let locals = &self.locals[..self.local_count as usize];
+        arrive(&mut self.list, locals, meta, t3, octets, out)
     }
 
     /// The same, out of line.
@@ -230,7 +159,8 @@ impl Sessions {
         ensures answered { (t : Table) → Stands self.old t → IsAnswered t self.new (Arrives (datagram_of meta.now t3 octets.now)) out.old out.new result }
         ensures fits { result ≤ 65538 }
     {
-        arrive(&mut self.list, meta, t3, octets, out)
+        let locals = &self.locals[..self.local_count as usize];
+        arrive(&mut self.list, locals, meta, t3, octets, out)
     }
 
     /// Writes the answer to a record at the front, says how many octets it has, and keeps the table that the record
@@ -243,8 +173,24 @@ impl Sessions {
         ensures fits { result ≤ 65538 }
     {
         match item {
-            Record::Open { key, extra, config } => open(&mut self.list, key, extra, config, out),
-            Record::Datagram { meta, t3, octets } => { self.arrive_apart(meta, *t3, octets, out) }
+            Record::Open { key, extra, config } => {
+                let answer = open(&mut self.list, &mut self.book, key, extra, config);
+                write_outcome(&Outcome::Opened(answer), out)
+            }
+            Record::Set { key, config } => {
+                let answer = set(&mut self.list, &mut self.book, key, config);
+                write_outcome(&Outcome::Set(answer), out)
+            }
+            Record::Close { key } => {
+                let count = close(&mut self.list, key);
+                write_outcome(&Outcome::Closed(count), out)
+            }
+            Record::Datagram { meta, t3, octets } => self.arrive_apart(meta, *t3, octets, out),
+            Record::Locals { count, list } => {
+                self.locals = *list;
+                self.local_count = *count;
+                write_outcome(&Outcome::Listed, out)
+            }
         }
     }
 }

@@ -7,15 +7,14 @@ use Rattle.std.proofs.Math.Seq.{take-append-add}
 use Rattle.std.specs.Io.KnownBytes.{Appends, Consumes, Keeps, IsAtEnd}
 use Rattle.port_io.specs.Outside.{AppendsFront}
 use Rattle.port_io.proofs.Known.{appends_none, appends_then, consumes_none, consumes_then, consumes_keeps}
-use Rattle.replay_format.specs.Records.{Item, Fits, AllFit, spelling, spellings, Opens, Arrives}
+use Rattle.replay_format.specs.Records.{Item, Fits, AllFit, spelling, spellings, Opens, Sets, Closes, Arrives, Lists}
 use Rattle.replay_format.specs.View.{IsFront, IsBegun, IsForeign}
 use Rattle.replay_format.specs.Answers.{Left, answer_octets}
 use Rattle.replay_format.proofs.RecordFacts.{one_front}
 use Rattle.replay_format.proofs.Formats.{item_obeys, spelling_short}
-use Rattle.replay_table.specs.declared.session.Session.{Session}
-use Rattle.replay_table.specs.Table.{Table}
+use Rattle.replay_table.specs.Table.{Table, empty_table}
 use Rattle.replay_table.specs.Outcomes.{answer, after, answers, answers_from, table_after}
-use Rattle.replay_table.specs.Stands.{Stands}
+use Rattle.replay_table.specs.Stands.{Kept, Stands}
 use Rattle.stampd.specs.Replay.{IsStream, IsNoStream, Takes, LeavesGrammar, answers_and_offset, IsDone, HasLeft, WasCutOff, WasStopped}
 
 -- ---- one record more
@@ -46,7 +45,10 @@ AllFit-push (r ∷ rs) item all one = (all.0, AllFit-push rs item all.1 one)
 
 not_empty : (item : Item) (x : List ℕ) → [] ≡ spelling item ++ x → ⊥
 not_empty (Opens o) x e = cc
+not_empty (Sets s) x e = cc
+not_empty (Closes k) x e = cc
 not_empty (Arrives d) x e = cc
+not_empty (Lists ls) x e = cc
 
 -- a stream that begins with these records has just them at its front
 one_reading : (rs qs : List Item) (x : List ℕ) → AllFit rs → AllFit qs → spellings qs ≡ spellings rs ++ x → (ts : List Item) × AllFit ts × (spellings ts ≡ x)
@@ -58,19 +60,19 @@ one_reading (r ∷ rs) (q ∷ qs) x fr fq e =
 
 -- ---- what is kept
 
-pub record Going (left0 left w0 w : Option (List ℕ)) (sessions : List Session) (pending due : List ℕ) (passed : ℕ) (records : List Item) : Type 0 where
+pub record Going (left0 left w0 w : Option (List ℕ)) (sessions : Kept) (pending due : List ℕ) (passed : ℕ) (records : List Item) : Type 0 where
   pub fits : AllFit records
   pub limit : length (spellings records) ≤ 2 ^ 30
   pub input : Consumes left0 left (spellings records ++ pending)
   pub sent : List ℕ
   pub out : Appends w0 w sent
   pub joined : sent ++ due ≡ answers records
-  pub stands : Stands sessions (table_after [] records)
+  pub stands : Stands sessions (table_after empty_table records)
   pub consumed : passed ≡ length (spellings records)
 
-pub going_none : (left w : Option (List ℕ)) → Going left left w w [] [] [] 0 []
+pub going_none : (left w : Option (List ℕ)) (sessions : Kept) → Stands sessions empty_table → Going left left w w sessions [] [] 0 []
 unfolding answers_from table_after
-going_none left w = record { fits = tt; limit = omega arith; input = consumes_none left; sent = []; out = appends_none w; joined = refl; stands = tt; consumed = refl }
+going_none left w sessions st = record { fits = tt; limit = omega arith; input = consumes_none left; sent = []; out = appends_none w; joined = refl; stands = st; consumed = refl }
 
 -- what was written, and what was at the end
 front_all : (old new : Option (List ℕ)) (x : List ℕ) → Appends old new x → AppendsFront old new x
@@ -87,7 +89,7 @@ front_behind a b c sent x whole first front joined = (
   subst (λ (l : List ℕ). Appends a c l) (sym (take-append-add sent x front.0) ∙ ap (take (length sent + front.0)) joined) (appends_then a b c sent (take front.0 x) first front.1),
 )
 
-module _ (left0 left w0 w : Option (List ℕ)) (sessions : List Session) (pending due : List ℕ) (passed : ℕ) (records : List Item) (h : Going left0 left w0 w sessions pending due passed records) where
+module _ (left0 left w0 w : Option (List ℕ)) (sessions : Kept) (pending due : List ℕ) (passed : ℕ) (records : List Item) (h : Going left0 left w0 w sessions pending due passed records) where
   pub going_more : (left' : Option (List ℕ)) (pending' octets : List ℕ) → Consumes left left' octets → pending' ≡ pending ++ octets → Going left0 left' w0 w sessions pending' due passed records
   going_more left' pending' octets more e = record {
     fits = h.fits;
@@ -101,7 +103,7 @@ module _ (left0 left w0 w : Option (List ℕ)) (sessions : List Session) (pendin
   }
 
   -- the same sessions, and the same that is due
-  pub going_same : (sessions' : List Session) (due' : List ℕ) → due' ≡ due → sessions' ≡ sessions → Going left0 left w0 w sessions' pending due' passed records
+  pub going_same : (sessions' : Kept) (due' : List ℕ) → due' ≡ due → sessions' ≡ sessions → Going left0 left w0 w sessions' pending due' passed records
   going_same sessions' due' e same = rw (e, same) h
 
   -- some of what was due was written
@@ -117,8 +119,8 @@ module _ (left0 left w0 w : Option (List ℕ)) (sessions : List Session) (pendin
     consumed = h.consumed;
   }
 
-  pub going_record : (sessions' : List Session) (pending' due' : List ℕ) (n : ℕ) (item : Item) → IsFront pending item n → passed + n ≤ 2 ^ 30
-      → due' ≡ due ++ answer_octets (answer (table_after [] records) item) → Stands sessions' (after (table_after [] records) item) → pending' ≡ drop n pending
+  pub going_record : (sessions' : Kept) (pending' due' : List ℕ) (n : ℕ) (item : Item) → IsFront pending item n → passed + n ≤ 2 ^ 30
+      → due' ≡ due ++ answer_octets (answer (table_after empty_table records) item) → Stands sessions' (after (table_after empty_table records) item) → pending' ≡ drop n pending
       → Going left0 left w0 w sessions' pending' due' (passed + n) (records ++ item ∷ [])
   going_record sessions' pending' due' n item f within e stands cut = record {
     fits = AllFit-push records item h.fits f.fits;
@@ -128,8 +130,8 @@ module _ (left0 left w0 w : Option (List ℕ)) (sessions : List Session) (pendin
         h.input;
     sent = h.sent;
     out = h.out;
-    joined = ap (λ (l : List ℕ). h.sent ++ l) e ∙ sym (append_assoc h.sent due (answer_octets (answer (table_after [] records) item))) ∙ ap (λ (l : List ℕ). l ++ answer_octets (answer (table_after [] records) item)) h.joined ∙ sym (answers_from-push [] records item);
-    stands = subst (λ (t : Table). Stands sessions' t) (sym (table_after-push [] records item)) stands;
+    joined = ap (λ (l : List ℕ). h.sent ++ l) e ∙ sym (append_assoc h.sent due (answer_octets (answer (table_after empty_table records) item))) ∙ ap (λ (l : List ℕ). l ++ answer_octets (answer (table_after empty_table records) item)) h.joined ∙ sym (answers_from-push empty_table records item);
+    stands = subst (λ (t : Table). Stands sessions' t) (sym (table_after-push empty_table records item)) stands;
     consumed = omega (arith, ap length (spellings-push records item), length-append (spellings records) (spelling item), h.consumed, f.len);
   }
 

@@ -1,6 +1,6 @@
-use Rattle.std.proofs.Common.{[]}
+use Rattle.replay_table.specs.Table.{empty_table}
 use Rattle.replay_table.proofs.ApartFacts.{all}
 use Rattle.replay_table.proofs.laws.law_apart.Goals as goal
 
 pub returns : goal.returns
-returns c = λ items. all [] items tt
+returns c = λ items. all empty_table items tt

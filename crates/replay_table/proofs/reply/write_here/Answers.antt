@@ -1,4 +1,4 @@
-use Rattle.std.proofs.Common.{ℕ, ◌+◌, ◌-◌, [], ◌++◌, length, take, drop, sym, ap, ◌∙◌, arith}
+use Rattle.std.proofs.Common.{ℕ, ◌+◌, ◌-◌, ◌++◌, length, take, drop, sym, ap, ◌∙◌, arith}
 use borrow.Rule.Slice.PartMut.{put_mid}
 use Rattle.refl_types.specs.declared.types.Endpoint.{Endpoint}
 use Rattle.reflect_core.specs.declared.session.Draw.{Draw}
@@ -15,7 +15,7 @@ unfolding answer_octets
 returns c =
     let s = c.args.session.now in
     let draw : Draw = record { number = s.count; sending = c.args.t3 } in
-    let d : Arrived = record { meta = c.args.meta.now; octets = c.args.octets.now; locals = [] } in
+    let d : Arrived = record { meta = c.args.meta.now; octets = c.args.octets.now; locals = c.args.locals.now } in
     let r : Reflected = reflection s.key s.extra s.config draw d in
     let lent = c.reflector.result in
     let same = c.reflector.ensures in
@@ -29,13 +29,13 @@ returns c =
           (c.frame_reply.ensures.octets
           ∙ ap (λ (x : ℕ). sent_octets (record { from = x; to = reply.to; number = s.count; octets = take n (drop 31 (put_mid 31 (length old - 31) old c.reflect-reply.new.out)) }) ++ drop (31 + n) (put_mid 31 (length old - 31) old c.reflect-reply.new.out)) is.from
           ∙ ap (λ (x : Endpoint). sent_octets (record { from = r.from; to = x; number = s.count; octets = take n (drop 31 (put_mid 31 (length old - 31) old c.reflect-reply.new.out)) }) ++ drop (31 + n) (put_mid 31 (length old - 31) old c.reflect-reply.new.out)) is.to)
-          ∙ ap (λ (x : Sending). sent_octets x ++ drop (31 + n) old) (sym (sending_is s e c.args.meta.now c.args.t3 c.args.octets.now c.requires.measured stands));
+          ∙ ap (λ (x : Sending). sent_octets x ++ drop (31 + n) old) (sym (sending_is c.args.locals.now s e c.args.meta.now c.args.t3 c.args.octets.now c.requires.measured stands));
       len = λ e stands.
           ap (λ (m : ℕ). 31 + m) is.len
           ∙ sym (c.frame_reply.ensures.len r.octets)
           ∙ ap (λ (x : ℕ). length (sent_octets (record { from = x; to = reply.to; number = s.count; octets = r.octets }))) is.from
           ∙ ap (λ (x : Endpoint). length (sent_octets (record { from = r.from; to = x; number = s.count; octets = r.octets }))) is.to
-          ∙ ap (λ (x : Sending). length (sent_octets x)) (sym (sending_is s e c.args.meta.now c.args.t3 c.args.octets.now c.requires.measured stands));
+          ∙ ap (λ (x : Sending). length (sent_octets x)) (sym (sending_is c.args.locals.now s e c.args.meta.now c.args.t3 c.args.octets.now c.requires.measured stands));
       fits = omega (arith, c.reflect-reply.ensures.limit);
     }
 

@@ -1,6 +1,7 @@
 use Rattle.std.proofs.Common.{◌≡◌, ℕ, List, [], ◌∷◌, ◌++◌, length, inl, inr, refl, subst, sym, ap, ◌∙◌, arith}
 use Rattle.std.proofs.lemmas.List.{length-append, length-drop, append-nil, nil_from_length}
 use Rattle.replay_format.specs.View.{IsFront, IsBegun, IsForeign}
+use Rattle.replay_table.specs.Table.{empty_table}
 use Rattle.replay_table.specs.Outcomes.{table_after}
 use Rattle.stampd.specs.Buffers.{pending, due}
 use Rattle.stampd.specs.Replay.{LeavesGrammar}
@@ -12,7 +13,7 @@ records-init g c =
     let left = g.S.Source.left c.args.input.now in
     let written = g.K.Sink.written c.args.out.now in
     record {
-      going = ([], rw (c.in-Ok-make-2.ensures, c.in-Ok.ensures, c.in-Ok-make.ensures) (going_none left written));
+      going = ([], rw (c.in-Ok.ensures, c.in-Ok-make.ensures) (going_none left written _ c.in-Ok-make-2.ensures));
       input = refl;
       out = refl;
       limit = omega (arith, ap length c.in-Ok.ensures);
@@ -31,7 +32,7 @@ records-preserved-in-Answered g c =
     let item = c.in-Answered.ensures.0 in
     let n = c.in-Answered.len in
     let f : IsFront (pending c.records.ahead) item n = subst (λ (l : List ℕ). IsFront l item n) c.pending.ensures c.in-Answered.ensures.1 in
-    let a = c.in-Answered.ensures.3 (table_after [] inv.going.0) inv.going.1.stands in
+    let a = c.in-Answered.ensures.3 (table_after empty_table inv.going.0) inv.going.1.stands in
     record {
       going = (
         inv.going.0 ++ item ∷ [],

@@ -1,0 +1,128 @@
+-- Which configurations are accepted, by the rows that they have.
+use Rattle.std.proofs.Common.{◌≡◌, ℕ, zero, suc, ◌-◌, Bool, true, false, ◌||◌, eqb, ltb, List, [], ◌∷◌, ◌++◌, length, Option, Some, None, refl, sym, ap, subst, ◌∙◌, inl, inr, ◌⊎◌, arith}
+use Rattle.std.specs.Prelude.{slice_get}
+use Rattle.std.proofs.lemmas.Bool.{eqb-true, lt-ltb, le-ltb}
+use Rattle.refl_types.specs.declared.config.Clock.{Clock}
+use Rattle.refl_types.specs.declared.config.Clock.TheVariants.{Ntp, Ptp}
+use Rattle.refl_types.specs.declared.config.ConfigParts.{ConfigParts}
+use Rattle.refl_types.specs.Same.{same_octets}
+use Rattle.refl_types.proofs.SameFacts.{both_true, eqb-same, octets_same, same_octets-refl}
+use Rattle.config_rows.specs.declared.book.Sought.{Sought}
+use Rattle.config_rows.specs.declared.book.Sought.TheVariants.{Known, Next, RowsFull}
+use Rattle.config_rows.specs.Rows.{Rows, HasNoRow, IsSought}
+use Rattle.replay_table.specs.Configs.{same_flag, same_clock, same_block, same_config}
+use Rattle.replay_table.specs.Table.{is_accepted, may_accept, accept}
+
+-- ---- what passes the test of equality is equal, and what is equal passes it
+
+flag_same : (a b : Bool) → same_flag a b ≡ true → a ≡ b
+flag_same true true e = refl
+flag_same true false e = absurd cc
+flag_same false true e = absurd cc
+flag_same false false e = refl
+
+clock_same : (a b : Clock) → same_clock a b ≡ true → a ≡ b
+clock_same Ntp Ntp e = refl
+clock_same Ntp Ptp e = absurd cc
+clock_same Ptp Ntp e = absurd cc
+clock_same Ptp Ptp e = refl
+
+block_same : (a b : Option (List ℕ)) → same_block a b ≡ true → a ≡ b
+block_same None None e = refl
+block_same None (Some b) e = absurd cc
+block_same (Some a) None e = absurd cc
+block_same (Some a) (Some b) e = ap (λ (x : List ℕ). Some x) (octets_same a b e)
+
+pub config_same : (a b : ConfigParts) → same_config a b ≡ true → a ≡ b
+unfolding same_config
+config_same a b e =
+    let p8 = both_true _ (same_block a.key b.key) e in
+    let p7 = both_true _ (eqb a.tlvs b.tlvs) p8.0 in
+    let p6 = both_true _ (same_octets a.info b.info) p7.0 in
+    let p5 = both_true _ (eqb a.multiplier b.multiplier) p6.0 in
+    let p4 = both_true _ (eqb a.scale b.scale) p5.0 in
+    let p3 = both_true _ (same_flag a.synced b.synced) p4.0 in
+    let p2 = both_true _ (eqb a.offset b.offset) p3.0 in
+    let p1 = both_true (same_flag a.stateful b.stateful) (same_clock a.clock b.clock) p2.0 in
+    let stateful = flag_same a.stateful b.stateful p1.0 in
+    let clock = clock_same a.clock b.clock p1.1 in
+    let offset = eqb-true a.offset b.offset p2.1 in
+    let synced = flag_same a.synced b.synced p3.1 in
+    let scale = eqb-true a.scale b.scale p4.1 in
+    let multiplier = eqb-true a.multiplier b.multiplier p5.1 in
+    let info = octets_same a.info b.info p6.1 in
+    let tlvs = eqb-true a.tlvs b.tlvs p7.1 in
+    let key = block_same a.key b.key p8.1 in
+    λ j. record { stateful = stateful j; clock = clock j; offset = offset j; synced = synced j; scale = scale j; multiplier = multiplier j; info = info j; tlvs = tlvs j; key = key j }
+
+flag-refl : (a : Bool) → same_flag a a ≡ true
+flag-refl true = refl
+flag-refl false = refl
+
+clock-refl : (a : Clock) → same_clock a a ≡ true
+clock-refl Ntp = refl
+clock-refl Ptp = refl
+
+block-refl : (a : Option (List ℕ)) → same_block a a ≡ true
+block-refl None = refl
+block-refl (Some a) = same_octets-refl a
+
+same_config-refl : (a : ConfigParts) → same_config a a ≡ true
+unfolding same_config
+same_config-refl a = rw (flag-refl a.stateful, clock-refl a.clock, eqb-same a.offset, flag-refl a.synced, eqb-same a.scale, eqb-same a.multiplier, same_octets-refl a.info, eqb-same a.tlvs, block-refl a.key) refl
+
+-- ---- a configuration that has a row was accepted
+
+or_true : (b : Bool) → (b || true) ≡ true
+or_true true = refl
+or_true false = refl
+
+true_or_false : (b : Bool) → (b ≡ true) ⊎ (b ≡ false)
+true_or_false true = inl refl
+true_or_false false = inr refl
+
+some_is : {A : Type 0} (x y : A) → ◌≡◌ {A = Option A} (Some x) (Some y) → x ≡ y
+some_is x y e = cc
+
+any-at : (cs : List ConfigParts) (i : ℕ) (c : ConfigParts) → slice_get cs i ≡ Some c → is_accepted c cs ≡ true
+any-at [] i c e = absurd cc
+any-at (d ∷ cs) zero c e = let same : same_config d c ≡ true = ap (λ (x : ConfigParts). same_config x c) (some_is d c e) ∙ same_config-refl c in rw same refl
+any-at (d ∷ cs) (suc i) c e = rw (any-at cs i c e) (or_true (same_config d c))
+
+any-none : (cs : List ConfigParts) (c : ConfigParts) → ((i : ℕ) → slice_get cs i ≡ Some c → ⊥) → is_accepted c cs ≡ false
+any-none [] c none = refl
+any-none (d ∷ cs) c none = elim (true_or_false (same_config d c)) [
+  | inl same ↦ absurd (none 0 (ap (λ (x : ConfigParts). Some x) (config_same d c same)))
+  | inr other ↦ rw other (any-none cs c (λ i e. none (suc i) e))
+]
+
+none-accepted : (rows : Rows) (c : ConfigParts) → HasNoRow rows c → is_accepted c rows.configs ≡ false
+none-accepted rows c none = any-none rows.configs c (λ i e. none (suc i) (omega arith, subst (λ (n : ℕ). slice_get rows.configs n ≡ Some c) (omega arith) e))
+
+pub known_accepted : (rows : Rows) (c : ConfigParts) (row : ℕ) → IsSought rows c (Known row) → is_accepted c rows.configs ≡ true
+known_accepted rows c row known = any-at rows.configs (row - 1) c known.1
+
+-- ---- what a search finds
+
+abbrev is_open : Sought → Bool
+is_open (Known row) = true
+is_open (Next row) = true
+is_open RowsFull = false
+
+pub sought_open : (rows : Rows) (c : ConfigParts) (s : Sought) → rows.limit ≡ 1024 → IsSought rows c s → is_open s ≡ may_accept c rows.configs
+sought_open rows c (Known row) limit is = rw (known_accepted rows c row is) refl
+sought_open rows c (Next row) limit is =
+    let few : ltb (length rows.configs) 1024 ≡ true = lt-ltb (length rows.configs) 1024 (omega (arith, is.1, limit)) in
+    rw few (sym (or_true (is_accepted c rows.configs)))
+sought_open rows c RowsFull limit is =
+    let many : ltb (length rows.configs) 1024 ≡ false = le-ltb (length rows.configs) 1024 (omega (arith, is.1, limit)) in
+    rw (none-accepted rows c is.0, many) refl
+
+pub accept_known : (rows : Rows) (c : ConfigParts) (row : ℕ) → IsSought rows c (Known row) → accept c rows.configs ≡ rows.configs
+accept_known rows c row is = rw (known_accepted rows c row is) refl
+
+pub accept_next : (rows : Rows) (c : ConfigParts) (row : ℕ) → IsSought rows c (Next row) → accept c rows.configs ≡ rows.configs ++ c ∷ []
+accept_next rows c row is = rw (none-accepted rows c is.0) refl
+
+pub never_full : (rows : Rows) (c : ConfigParts) → rows.limit ≡ 1024 → may_accept c rows.configs ≡ true → IsSought rows c RowsFull → ⊥
+never_full rows c limit may is = let e : true ≡ false = sym may ∙ sym (sought_open rows c RowsFull limit is) in cc

@@ -1,0 +1,8 @@
+use Rattle.session_octets.proofs.Formats.{config_obeys}
+use Rattle.session_octets.proofs.laws.law_configs.Goals as goal
+
+pub returns-clause-read : goal.returns-clause-read
+returns-clause-read c = λ x rest fits. config_obeys.again x rest fits
+
+pub returns-clause-spelled : goal.returns-clause-spelled
+returns-clause-spelled c = λ octets rest x bytes e. config_obeys.got octets x rest bytes e
