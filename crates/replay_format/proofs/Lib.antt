@@ -5,3 +5,4 @@ pub mod RecordFacts
 pub mod AnswerFacts
 pub mod WholeFacts
 pub mod WritingFacts
+pub mod AnswerLaws

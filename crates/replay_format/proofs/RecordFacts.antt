@@ -1,11 +1,13 @@
 -- What reading a record says, by its spelling alone.
-use Rattle.std.proofs.Common.{◌≡◌, ℕ, ◌-◌, ◌≤◌, List, ◌++◌, length, drop, Ok, Err, sym, ap, ◌∙◌, arith}
-use Rattle.std.proofs.lemmas.List.{drop_at, length-append}
+use Rattle.std.proofs.Common.{◌≡◌, ℕ, ◌-◌, ◌≤◌, List, [], ◌++◌, length, drop, Ok, Err, sym, ap, ◌∙◌, append_assoc, arith}
+use Rattle.std.proofs.lemmas.List.{append-nil, drop_at, length-append}
 use Rattle.octet_format.specs.declared.reading.Unread.TheVariants.{More, Bad}
 use Rattle.octet_format.specs.Octets.{IsBytes}
 use Rattle.replay_format.specs.Records.{Item, Fits, spelling}
 use Rattle.replay_format.specs.Reading.{item_at}
-use Rattle.replay_format.specs.View.{IsFront, IsBegun, IsForeign}
+use Rattle.replay_format.specs.View.{item_of, IsFront, IsBegun, IsForeign, IsParsed, IsRecord}
+use Rattle.replay_format.specs.declared.record.Parsed.{Parsed}
+use Rattle.replay_format.specs.declared.record.Parsed.TheVariants as parsed
 use Rattle.octet_format.proofs.Obeys.{ok_is, ok_err}
 use Rattle.replay_format.proofs.Formats.{item_obeys}
 
@@ -33,3 +35,16 @@ pub one_front : (a b : Item) (x y : List ℕ) → Fits a → Fits b → spelling
 one_front a b x y fa fb e =
     let p = ok_is (a, x) (b, y) (sym (item_obeys.again a x fa) ∙ ap item_at e ∙ item_obeys.again b y fb) in
     (ap (λ (z : Item × List ℕ). z.0) p, ap (λ (z : Item × List ℕ). z.1) p)
+
+-- a record that was written is read again
+pub read_back : (p : Parsed) (item : Item) (rest : List ℕ) → Fits item → IsParsed p (spelling item ++ rest) → IsRecord p item
+read_back (parsed.Record r n) item rest fits is =
+    let same = one_front (item_of r) item (drop n (spelling item ++ rest)) rest is.0.fits fits (sym is.0.spelled) in
+    (same.0, is.0.len ∙ ap (λ (i : Item). length (spelling i)) same.0)
+read_back parsed.More item rest fits is =
+    let other = is.0 in
+    let more = is.1 in
+    let whole : spelling item ++ (rest ++ more) ≡ spelling other ++ [] = sym (append_assoc (spelling item) rest more) ∙ is.4 ∙ sym (append-nil (spelling other)) in
+    let none = (one_front item other (rest ++ more) [] fits is.2 whole).1 in
+    omega (arith, is.3, ap length none, length-append rest more)
+read_back parsed.Bad item rest fits is = is item [] rest fits (append-nil (spelling item ++ rest))

@@ -1,8 +1,8 @@
 -- Each record has one answer, and each answer one spelling.
-use Rattle.std.specs.Prelude.{ℕ, ◌+◌, ◌≤◌, List, [], ◌∷◌, ◌++◌, length, Option, Some, None}
+use Rattle.std.specs.Prelude.{ℕ, ◌+◌, ◌<◌, ◌≤◌, ◌^◌, List, [], ◌∷◌, ◌++◌, length, Option, Some, None}
 use Rattle.std.specs.Int.{w16, w32, w64, to_be_bytes}
 use Rattle.refl_types.specs.declared.types.Endpoint.{Endpoint}
-use Rattle.refl_types.specs.Spelling.{endpoint_octets}
+use Rattle.refl_types.specs.Spelling.{endpoint_octets, FitsEndpoint}
 use Rattle.replay_format.specs.declared.code.OpenAnswer.{OpenAnswer}
 use Rattle.replay_format.specs.declared.code.SetAnswer.{SetAnswer}
 use Rattle.replay_format.specs.declared.code.UnsentCause.{UnsentCause}
@@ -78,3 +78,21 @@ FitsAnswer (Closed count) = Unit {0}
 FitsAnswer Listed = Unit {0}
 FitsAnswer (Unsent cause) = Unit {0}
 FitsAnswer (Left offset) = Unit {0}
+
+-- ---- fields in the ranges of their types
+
+pub record FitsSending (s : Sending) : Type 0 where
+  pub from : s.from < 2 ^ 16
+  pub to : FitsEndpoint s.to
+  pub number : s.number < 2 ^ 32
+  pub len : length s.octets ≤ 65507
+
+abbrev pub IsInRange : Answer → Type 0
+IsInRange (Opened a) = Unit {0}
+IsInRange (Set a) = Unit {0}
+IsInRange (Closed None) = Unit {0}
+IsInRange (Closed (Some n)) = n < 2 ^ 32
+IsInRange Listed = Unit {0}
+IsInRange (Sent s) = FitsSending s
+IsInRange (Unsent cause) = Unit {0}
+IsInRange (Left offset) = offset < 2 ^ 64

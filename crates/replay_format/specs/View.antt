@@ -50,3 +50,9 @@ abbrev pub IsParsed : Parsed → List ℕ → Type 0
 IsParsed (parsed.Record r n) octets = IsFront octets (item_of r) n × IsMeasured r
 IsParsed parsed.More octets = IsBegun octets
 IsParsed parsed.Bad octets = IsForeign octets
+
+-- what was read is this record
+abbrev pub IsRecord : Parsed → Item → Type 0
+IsRecord (parsed.Record r n) item = (item_of r ≡ item) × (n ≡ length (spelling item))
+IsRecord parsed.More item = ⊥
+IsRecord parsed.Bad item = ⊥

@@ -2,7 +2,7 @@
 
 ghost use Rattle.std.specs.Prelude.{ℕ, List, ◌≡◌, ◌+◌, ◌≤◌, [], ◌∷◌, ◌++◌, length, take, drop};
 ghost use Rattle.replay_format.specs.Records.{framed};
-ghost use Rattle.replay_format.specs.Answers.{sent_octets, answer_of, answer_octets, answer_len, FitsAnswer};
+ghost use Rattle.replay_format.specs.Answers.{Answer, sent_octets, answer_of, answer_octets, answer_len, FitsAnswer, IsInRange};
 
 use crate::code::{OpenAnswer, SetAnswer, UnsentCause};
 use crate::layout::{
@@ -116,3 +116,8 @@ pub fn write_outcome(outcome: &Outcome, out: &mut [u8]) -> usize
         } => write_sent(*from, to, *number, octets, out),
     }
 }
+
+/// A law: no answer begins another, so answers have one reading.
+pub fn one_answer()
+    ensures { (a b : Answer) (x y : List ℕ) → IsInRange a → IsInRange b → answer_octets a ++ x ≡ answer_octets b ++ y → (a ≡ b) × (x ≡ y) }
+{}

@@ -5,7 +5,8 @@ ghost use Rattle.octet_format.specs.Reading.{Gives};
 ghost use Rattle.refl_types.specs.Configs.{IsConfig};
 ghost use Rattle.replay_format.specs.Records.{Item, Fits, spelling, datagram_of};
 ghost use Rattle.replay_format.specs.Reading.{opening_at, setting_at, closing_at, datagram_at, item_at};
-ghost use Rattle.replay_format.specs.View.{item_of, IsParsed, IsMeasured};
+ghost use Rattle.replay_format.specs.View.{item_of, IsParsed, IsMeasured, IsRecord};
+ghost use Rattle.replay_format.specs.declared.record.Parsed as views;
 
 use crate::fields::{body_len_at, ttl_at};
 use crate::layout::{
@@ -184,4 +185,9 @@ pub fn read_record(octets: &[u8]) -> Parsed
 /// A law: no record begins another, so a stream has one reading.
 pub fn one_record()
     ensures { (a b : Item) (x y : List ℕ) → Fits a → Fits b → spelling a ++ x ≡ spelling b ++ y → (a ≡ b) × (x ≡ y) }
+{}
+
+/// A law: a record that was written is read again, whatever follows it.
+pub fn read_again()
+    ensures { (p : views.Parsed) (item : Item) (rest : List ℕ) → Fits item → IsParsed p (spelling item ++ rest) → IsRecord p item }
 {}
