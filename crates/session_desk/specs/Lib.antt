@@ -1,0 +1,11 @@
+pub mod Sessions
+pub mod Book
+pub mod Slots
+pub mod Kept
+pub mod Calls
+pub mod Writes
+pub mod Refusals
+pub mod Ticking
+pub mod Passing
+pub mod Parting
+pub mod Makes
