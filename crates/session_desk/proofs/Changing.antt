@@ -7,8 +7,8 @@ use Rattle.session_world.specs.declared.steps.TableSize.{TableSize}
 use Rattle.session_world.specs.declared.steps.Step.{Step}
 use Rattle.session_world.specs.Keys.{has_key}
 use Rattle.session_world.specs.Desk.{IsComplete, config_at}
-use Rattle.session_world.proofs.BoolFacts.{number_case}
-use Rattle.session_world.proofs.KeyFacts.{same_key_eq}
+use Rattle.session_desk.proofs.BoolFacts.{number_case}
+use Rattle.session_desk.proofs.KeyFacts.{same_key_eq}
 use Rattle.session_rule.specs.declared.seats.Seat.{Seat}
 use Rattle.session_rule.specs.Seats.{desk_steps}
 use Rattle.session_desk.specs.declared.session.Session.{Session}

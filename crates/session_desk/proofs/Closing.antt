@@ -11,8 +11,8 @@ use Rattle.session_world.specs.declared.steps.Step.TheVariants.{Close, Peek, Exp
 use Rattle.session_world.specs.Desk.{is_open, generation_of, rows_written, config_at, key_of_slot}
 use Rattle.session_world.specs.Answers.{counted, closed, desk_answers}
 use Rattle.session_world.specs.Loads.{IsWordOf}
-use Rattle.session_world.proofs.BoolFacts.{number_case, true_ne_false, is_false}
-use Rattle.session_world.proofs.KeyFacts.{same_key_eq, same_key_of}
+use Rattle.session_desk.proofs.BoolFacts.{number_case, true_ne_false, is_false}
+use Rattle.session_desk.proofs.KeyFacts.{same_key_eq, same_key_of}
 use Rattle.session_rule.specs.declared.seats.Table.{Table}
 use Rattle.session_rule.specs.declared.seats.Seat.{Seat}
 use Rattle.session_rule.specs.Seats.{desk_steps, DeskHasMade}

@@ -6,7 +6,7 @@ use Rattle.std.proofs.lemmas.List.{length-map}
 use Rattle.slot_word.specs.Fields.{greatest_generation}
 use Rattle.config_rows.specs.Rows.{Rows}
 use Rattle.session_world.specs.declared.steps.TableSize.{TableSize}
-use Rattle.session_world.proofs.BoolFacts.{number_case, bool, true_ne_false}
+use Rattle.session_desk.proofs.BoolFacts.{number_case, bool, true_ne_false}
 use Rattle.session_rule.specs.declared.seats.Table.{Table}
 use Rattle.session_rule.specs.declared.seats.Seat.{Seat}
 use Rattle.session_rule.specs.Seats.{desk_steps}

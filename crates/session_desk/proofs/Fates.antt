@@ -8,7 +8,7 @@ use Rattle.slot_word.specs.Fields.{is_open_word}
 use Rattle.session_world.specs.declared.steps.TableSize.{TableSize}
 use Rattle.session_world.specs.declared.steps.Step.{Step}
 use Rattle.session_world.specs.Desk.{is_open}
-use Rattle.session_world.proofs.BoolFacts.{number_case, bool, true_ne_false, is_false, no_or}
+use Rattle.session_desk.proofs.BoolFacts.{number_case, bool, true_ne_false, is_false, no_or}
 use Rattle.session_rule.specs.declared.seats.Table.{Table}
 use Rattle.session_rule.specs.declared.seats.Seat.{Seat}
 use Rattle.session_rule.specs.Seats.{desk_steps}

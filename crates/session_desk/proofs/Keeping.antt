@@ -15,10 +15,10 @@ use Rattle.session_world.specs.Keys.{distance, key_of, extra_of, is_auth, has_ke
 use Rattle.session_world.specs.Desk.{is_open, generation_of, row_of, rows_written, key_word_of, key_of_slot, extra_of_slot, is_reserved, config_at, IsComplete, start_of_key}
 use Rattle.session_world.specs.Answers.{opened, desk_answers}
 use Rattle.session_world.specs.Allowed.{DeskDid, DeskMay}
-use Rattle.session_world.proofs.BoolFacts.{number_case, true_ne_false, both, and_i, is_false}
-use Rattle.session_world.proofs.KeyFacts.{same_key_eq, same_key_of, excludes_self}
+use Rattle.session_desk.proofs.BoolFacts.{number_case, true_ne_false, both, and_i, is_false}
+use Rattle.session_desk.proofs.KeyFacts.{same_key_eq, same_key_of, excludes_self}
 use Rattle.refl_types.specs.Same.{same_key}
-use Rattle.session_world.proofs.DeskFacts.{open_inside}
+use Rattle.session_world.specs.DeskLists.{HasSoundSlots}
 use Rattle.session_rule.specs.declared.seats.Table.{Table}
 use Rattle.session_rule.specs.declared.seats.Seat.{Seat}
 use Rattle.session_rule.specs.Seats.{desk_steps, DeskHasMade}
@@ -197,11 +197,11 @@ live_not_reserving Reserved e = absurd (true_ne_false (sym e))
 pub inside_of : (z : TableSize) (ds : List Step) (ss : List Slot) (test : Use → Bool) (i : ℕ) → AreSlots z ds ss → test Free ≡ false → test (taken_in ss i) ≡ true → i < z.slots
 inside_of z ds ss test i a none is = subst (λ (n : ℕ). i < n) a.count (is_inside test ss i none is)
 
-pub may_start : (z : TableSize) (ds : List Step) (ss : List Slot) (i n : ℕ) → DeskDid z ds → AreSlots z ds ss → is_reserving (taken_in ss i) ≡ true → DeskMay z ds (Start i n)
-may_start z ds ss i n did a is = let lt = inside_of z ds ss is_reserving i a refl is in let f = a.fits i lt in let mine = f.session (reserving_is_taken (taken_in ss i) is) in (
+pub may_start : (z : TableSize) (ds : List Step) (ss : List Slot) (i n : ℕ) → HasSoundSlots z ds → AreSlots z ds ss → is_reserving (taken_in ss i) ≡ true → DeskMay z ds (Start i n)
+may_start z ds ss i n sound a is = let lt = inside_of z ds ss is_reserving i a refl is in let f = a.fits i lt in let mine = f.session (reserving_is_taken (taken_in ss i) is) in (
   lt,
   f.reserved is,
-  (λ j o. is_false _ (λ x. let lj = open_inside z ds did j o in let g = a.fits j lj in let live : is_live (taken_in ss j) ≡ true = sym g.live ∙ o in
+  (λ j o. is_false _ (λ x. let lj = sound.open_inside j o in let g = a.fits j lj in let live : is_live (taken_in ss j) ≡ true = sym g.live ∙ o in
       let yours = g.session (live_is_taken (taken_in ss j) live) in
       let e = a.alone j i lj lt (live_is_taken (taken_in ss j) live) (reserving_is_taken (taken_in ss i) is) (ap (λ (y : _). excludes y (session_in ss i).key) (sym yours.key) ∙ ap (excludes (key_of_slot ds j)) (sym mine.key) ∙ x) in
       true_ne_false (sym live ∙ ap (λ (k : ℕ). is_live (taken_in ss k)) e ∙ reserving_not_live (taken_in ss i) is))),

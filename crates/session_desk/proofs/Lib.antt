@@ -1,3 +1,5 @@
+pub mod BoolFacts
+pub mod KeyFacts
 pub mod Lists
 pub mod Orders
 pub mod Keeping
@@ -19,3 +21,6 @@ pub mod Added
 pub mod Fates
 pub mod Remaining
 pub mod Making
+pub mod Goes
+pub mod Serving
+pub mod Fitting

@@ -1,7 +1,7 @@
 -- Lists of numbers that stand once each, and what a change at one place makes of a map over them.
 use Rattle.std.proofs.Common.{◌≡◌, ◌≢◌, ⊎_elim, ℕ, suc, ◌+◌, ◌<◌, ◌==◌, Bool, true, false, not, if◌then◌else◌, List, [], ◌∷◌, ◌++◌, length, map, sym, refl, ap, ◌∙◌, subst, arith, eq-eqb, ne_eqb}
 use Rattle.std.specs.List.{filter, list_any, Contains}
-use Rattle.session_world.proofs.BoolFacts.{number_case, bool}
+use Rattle.session_desk.proofs.BoolFacts.{number_case, bool}
 use Rattle.session_desk.specs.Slots.{times}
 
 -- ---- how often a number stands in a list

@@ -7,7 +7,7 @@ use Rattle.session_world.specs.declared.steps.TableSize.{TableSize}
 use Rattle.session_world.specs.declared.steps.Step.{Step}
 use Rattle.session_world.specs.declared.steps.Step.TheVariants.{Split, Join}
 use Rattle.session_world.specs.Sizes.{IsWithinLimits}
-use Rattle.session_world.proofs.BoolFacts.{true_ne_false, some_none}
+use Rattle.session_desk.proofs.BoolFacts.{true_ne_false, some_none}
 use Rattle.session_desk.specs.declared.session.Use.{Use}
 use Rattle.session_desk.specs.declared.session.Use.TheVariants.{Free}
 use Rattle.session_desk.specs.declared.session.Slot.{Slot}

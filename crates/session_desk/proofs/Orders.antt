@@ -3,7 +3,7 @@ use Rattle.std.proofs.Common.{◌≡◌, ◌≢◌, ⊎_elim, ℕ, zero, suc, �
 use Rattle.std.specs.List.{filter, sum_by}
 use Rattle.std.proofs.lemmas.List.{get_or-set_same, get_or-set_other}
 use Rattle.std.proofs.lemmas.List.Sums.{sum_by-set, sum_by-cons}
-use Rattle.session_world.proofs.BoolFacts.{number_case, bool, true_ne_false}
+use Rattle.session_desk.proofs.BoolFacts.{number_case, bool, true_ne_false}
 use Rattle.session_desk.specs.declared.session.Use.{Use}
 use Rattle.session_desk.specs.declared.session.Use.TheVariants.{Free, Reserved, Live}
 use Rattle.session_desk.specs.declared.session.Slot.{Slot}

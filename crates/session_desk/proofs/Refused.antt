@@ -8,8 +8,8 @@ use Rattle.session_key.specs.Matching.{excludes}
 use Rattle.config_rows.specs.Rows.{Rows}
 use Rattle.session_world.specs.declared.steps.TableSize.{TableSize}
 use Rattle.session_world.specs.declared.steps.Step.{Step}
-use Rattle.session_world.proofs.BoolFacts.{bool, either_of, is_false, true_ne_false}
-use Rattle.session_world.proofs.KeyFacts.{same_key_eq}
+use Rattle.session_desk.proofs.BoolFacts.{bool, either_of, is_false, true_ne_false}
+use Rattle.session_desk.proofs.KeyFacts.{same_key_eq}
 use Rattle.session_rule.specs.declared.seats.Seat.{Seat}
 use Rattle.session_rule.specs.Seats.{desk_steps}
 use Rattle.session_desk.specs.declared.session.Slot.{Slot}

@@ -10,7 +10,7 @@ use Rattle.session_world.specs.declared.steps.Step.TheVariants.{Peek, Expire}
 use Rattle.session_world.specs.Desk.{key_of_slot, row_of}
 use Rattle.session_world.specs.Answers.{Answer, counted, closed, expired, expire_gives, desk_answers}
 use Rattle.session_world.specs.Loads.{DeskWords}
-use Rattle.session_world.proofs.BoolFacts.{number_case, true_ne_false, is_false}
+use Rattle.session_desk.proofs.BoolFacts.{number_case, true_ne_false, is_false}
 use Rattle.session_desk.specs.declared.session.Use.{Use}
 use Rattle.session_desk.specs.declared.session.Use.TheVariants.{Free}
 use Rattle.session_desk.specs.declared.session.Session.{Session}

@@ -14,8 +14,8 @@ use Rattle.session_world.specs.declared.steps.Step.TheVariants.{Scan}
 use Rattle.session_world.specs.Keys.{distance}
 use Rattle.session_world.specs.Allowed.{DeskDid}
 use Rattle.session_world.specs.Desk.{is_open, generation_of, is_reserved, start_of_key}
-use Rattle.session_world.proofs.BoolFacts.{number_case, bool, true_ne_false, both, either_of, and_i, or_l, not_true, not_false}
-use Rattle.session_world.proofs.DeskFacts.{open_used, reserved_used}
+use Rattle.session_desk.proofs.BoolFacts.{number_case, bool, true_ne_false, both, either_of, and_i, or_l, not_true, not_false}
+use Rattle.session_world.specs.DeskLists.{HasSoundSlots}
 use Rattle.session_desk.specs.declared.session.Use.{Use}
 use Rattle.session_desk.specs.declared.session.Use.TheVariants.{Free, Reserved, Live}
 use Rattle.session_desk.specs.declared.session.Slot.{Slot}
@@ -35,12 +35,12 @@ scans_kept z ds rb ss ls rs ks far (suc n) words k = let es = scans_of n words +
 
 -- ---- the slot that is taken
 
-used_by : (z : TableSize) (ds : List Step) (j : ℕ) (u : Use) → DeskDid z ds → is_open ds j ≡ is_live u → (is_reserving u ≡ true → is_reserved ds j ≡ true) → is_taken u ≡ true → ¬ (generation_of ds j ≡ 0)
-used_by z ds j Free did o r t = absurd (true_ne_false (sym t))
-used_by z ds j Reserved did o r t = reserved_used z ds did j (r refl)
-used_by z ds j Live did o r t = open_used z ds did j o
+used_by : (z : TableSize) (ds : List Step) (j : ℕ) (u : Use) → HasSoundSlots z ds → is_open ds j ≡ is_live u → (is_reserving u ≡ true → is_reserved ds j ≡ true) → is_taken u ≡ true → ¬ (generation_of ds j ≡ 0)
+used_by z ds j Free sound o r t = absurd (true_ne_false (sym t))
+used_by z ds j Reserved sound o r t = sound.reserved_used j (r refl)
+used_by z ds j Live sound o r t = sound.open_used j o
 
-pub is_ready : (z : TableSize) (ds : List Step) (ss : List Slot) (words : List ℕ) (start : ℕ) (p : Place) (k : Key) → DeskDid z ds → AreSlots z ds ss → IsFirst ss z.workers words start p.slot → start ≡ start_of_key z k → p.generation ≡ (session_in ss p.slot).place.generation + 1
+pub is_ready : (z : TableSize) (ds : List Step) (ss : List Slot) (words : List ℕ) (start : ℕ) (p : Place) (k : Key) → HasSoundSlots z ds → AreSlots z ds ss → IsFirst ss z.workers words start p.slot → start ≡ start_of_key z k → p.generation ≡ (session_in ss p.slot).place.generation + 1
     → IsReady z (scans_of z.workers words ++ ds) p k
 is_ready z ds ss words start p k did a f e next =
     let lt : p.slot < z.slots = subst (λ (n : ℕ). p.slot < n) a.count f.inside in

@@ -1,16 +1,17 @@
 -- What a reserve keeps of the book.
-use Rattle.std.proofs.Common.{◌≡◌, ◌≢◌, ℕ, ◌<◌, ◌≤◌, false, List, [], ◌∷◌, ◌++◌, length, get_or, set, sym, refl, ap, ◌∙◌, subst, ne_eqb}
+use Rattle.std.proofs.Common.{◌≡◌, ◌≢◌, ℕ, ◌<◌, ◌≤◌, ◌==◌, Bool, false, ◌&&◌, if◌then◌else◌, List, [], ◌∷◌, ◌++◌, length, get_or, set, sym, refl, ap, ◌∙◌, subst, arith, ne_eqb}
 use Rattle.std.proofs.lemmas.List.{length-set}
 use Rattle.session_key.specs.Matching.{excludes}
 use Rattle.config_rows.specs.Rows.{Rows}
 use Rattle.session_world.specs.declared.steps.TableSize.{TableSize}
 use Rattle.session_world.specs.declared.steps.Step.{Step}
 use Rattle.session_world.specs.declared.steps.Step.TheVariants.{WriteRow, WriteKey, ReserveNew, Scan, ReserveUsed}
+use Rattle.session_world.specs.Keys.{config_of}
+use Rattle.session_world.specs.Desk.{IsComplete, config_at, row_word_of}
 use Rattle.session_world.specs.Answers.{desk_answers}
 use Rattle.session_world.specs.Allowed.{DeskDid, DeskMay}
-use Rattle.session_world.proofs.BoolFacts.{number_case, true_ne_false}
-use Rattle.session_world.proofs.KeyFacts.{excludes_turn}
-use Rattle.session_world.proofs.DeskFacts.{still_complete, config_kept}
+use Rattle.session_desk.proofs.BoolFacts.{number_case, true_ne_false}
+use Rattle.session_desk.proofs.KeyFacts.{excludes_turn}
 use Rattle.session_desk.specs.declared.session.Use.{Use}
 use Rattle.session_desk.specs.declared.session.Use.TheVariants.{Free, Reserved, Live}
 use Rattle.session_desk.specs.declared.session.Slot.{Slot}
@@ -38,8 +39,13 @@ only_then ds es fs i a b = record {
 pub only_scan : (ds : List Step) (i w n : ℕ) → OnlyAt ds (Scan w n ∷ ds) i
 only_scan ds i w n = record { generation = λ j m. refl; row = λ j m. refl; live = λ j m. refl; reserved = λ j m. refl; words = λ j k m. refl; complete = λ r c. c; config = λ r c. refl }
 
+-- a word of the first row that isn't complete is none of a complete one
+config_kept : (z : TableSize) (ds : List Step) (row k n r : ℕ) → DeskMay z ds (WriteRow row k n) → IsComplete ds r → config_at (WriteRow row k n ∷ ds) r ≡ config_at ds r
+config_kept z ds row k n r may c = let other : r ≢ row = (λ (e : r ≡ row). let pos = may.0 in let low = may.2 in let at = may.4 in let top = c.1 in omega (arith, e, pos, low, at, top)) in
+    λ p. config_of (λ j. ap (λ (b : Bool). if b && (j == k) then n else row_word_of ds r j) (ne_eqb r row other) p)
+
 only_row : (z : TableSize) (ds : List Step) (i r k n : ℕ) → DeskMay z ds (WriteRow r k n) → OnlyAt ds (WriteRow r k n ∷ ds) i
-only_row z ds i r k n may = record { generation = λ j m. refl; row = λ j m. refl; live = λ j m. refl; reserved = λ j m. refl; words = λ j k m. refl; complete = λ q c. still_complete ds (WriteRow r k n) q c; config = λ q c. config_kept z ds (WriteRow r k n) may q c }
+only_row z ds i r k n may = record { generation = λ j m. refl; row = λ j m. refl; live = λ j m. refl; reserved = λ j m. refl; words = λ j k m. refl; complete = λ q c. (c.0, (let top = c.1 in omega (arith, top))); config = λ q c. config_kept z ds r k n q may c }
 
 only_key : (ds : List Step) (i k n : ℕ) → OnlyAt ds (WriteKey i k n ∷ ds) i
 only_key ds i k n = record { generation = λ j m. refl; row = λ j m. refl; live = λ j m. refl; reserved = λ j m. rw (ne_eqb j i m) refl; words = λ j q m. rw (ne_eqb j i m) refl; complete = λ r c. c; config = λ r c. refl }

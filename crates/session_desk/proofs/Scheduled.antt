@@ -1,4 +1,4 @@
--- Each step of the desk's list was allowed, and each word that it peeked at is an open one.
+-- The words that the desk has read.
 use Rattle.std.proofs.Common.{◌≡◌, ℕ, List, ◌∷◌, subst, ◌∙◌}
 use Rattle.session_world.specs.declared.steps.TableSize.{TableSize}
 use Rattle.session_world.specs.declared.steps.Step.{Step}
@@ -6,12 +6,7 @@ use Rattle.session_world.specs.declared.steps.Part.{Part}
 use Rattle.session_world.specs.Sizes.{IsWithinLimits}
 use Rattle.session_world.specs.declared.steps.Step.TheVariants.{Peek}
 use Rattle.session_world.specs.Loads.{LoadedWords, DeskWords, IsWordOf}
-use Rattle.session_world.specs.Allowed.{DeskDid}
-use Rattle.session_world.proofs.Sound.{run_sound}
 use Rattle.session_rule.specs.Seats.{IsDeskOfOneSchedule}
-
-pub desk_did : (z : TableSize) (ds : List Step) (ps : List Part) → IsWithinLimits z → IsDeskOfOneSchedule z ds ps → DeskDid z ds
-desk_did z ds ps l s = subst (DeskDid z) s.2 ((run_sound z s.0 l s.1).desk)
 
 pub word_peeked : LoadedWords → (z : TableSize) (ds es : List Step) (ps : List Part) (i n : ℕ) → IsWithinLimits z → es ≡ Peek i n ∷ ds → IsDeskOfOneSchedule z es ps → IsWordOf ds i n
 word_peeked law z ds es ps i n l e s = (subst DeskWords (s.2 ∙ e) ((law z s.0 l s.1).desk)).0

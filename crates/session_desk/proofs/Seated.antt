@@ -16,7 +16,7 @@ use Rattle.session_world.specs.declared.steps.Step.TheVariants.{ReserveNew, Rese
 use Rattle.session_world.specs.Keys.{is_auth, has_key}
 use Rattle.session_world.specs.Desk.{is_open, generation_of, row_of, key_of_slot, extra_of_slot, is_reserved, rows_written, config_at}
 use Rattle.session_world.specs.Answers.{desk_answers}
-use Rattle.session_world.proofs.BoolFacts.{number_case, true_ne_false, some_same, some_none}
+use Rattle.session_desk.proofs.BoolFacts.{number_case, true_ne_false, some_same, some_none}
 use Rattle.session_world.specs.Allowed.{DeskDid}
 use Rattle.session_desk.specs.declared.session.Use.TheVariants.{Reserved}
 use Rattle.session_desk.specs.Sessions.{new_session}

@@ -14,9 +14,9 @@ use Rattle.session_world.specs.Keys.{is_auth, has_key, key_of, extra_of}
 use Rattle.session_world.specs.Desk.{key_of_slot, extra_of_slot}
 use Rattle.session_world.specs.Answers.{configured, desk_answers}
 use Rattle.session_world.specs.Allowed.{DeskMay}
-use Rattle.session_world.proofs.BoolFacts.{number_case, true_ne_false, both, if_yes, if_no}
+use Rattle.session_desk.proofs.BoolFacts.{number_case, true_ne_false, both, if_yes, if_no}
 use Rattle.session_world.specs.Allowed.{DeskDid}
-use Rattle.session_world.proofs.KeyFacts.{same_key_eq}
+use Rattle.session_desk.proofs.KeyFacts.{same_key_eq}
 use Rattle.session_rule.specs.declared.seats.Table.{Table}
 use Rattle.session_rule.specs.declared.seats.Seat.{Seat}
 use Rattle.session_rule.specs.Seats.{desk_steps}

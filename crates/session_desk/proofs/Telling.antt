@@ -6,7 +6,7 @@ use Rattle.refl_types.specs.declared.types.Key.{Key}
 use Rattle.config_rows.specs.Rows.{Rows}
 use Rattle.session_world.specs.declared.steps.TableSize.{TableSize}
 use Rattle.session_world.specs.declared.steps.Step.{Step}
-use Rattle.session_world.proofs.BoolFacts.{number_case, bool, true_ne_false, some_none, some_same}
+use Rattle.session_desk.proofs.BoolFacts.{number_case, bool, true_ne_false, some_none, some_same}
 use Rattle.session_desk.specs.declared.session.Use.{Use}
 use Rattle.session_desk.specs.declared.session.Use.TheVariants.{Free}
 use Rattle.session_desk.specs.declared.session.Slot.{Slot}
@@ -41,7 +41,7 @@ found_live z ds rb ss ls rs ks far k i kept live at = found_one (session_in ss) 
 
 -- ---- by number
 
-got_times : (xs : List ℕ) (n i : ℕ) → slice_get xs n ≡ Some i → 0 < times i xs
+pub got_times : (xs : List ℕ) (n i : ℕ) → slice_get xs n ≡ Some i → 0 < times i xs
 got_times [] n i e = absurd (some_none i e)
 got_times (x ∷ xs) zero i e = rw (eq-eqb x i (some_same e)) (omega arith)
 got_times (x ∷ xs) (suc n) i e = still i x xs (got_times xs n i e)

@@ -2,16 +2,16 @@
 use Rattle.std.proofs.Common.{◌≡◌, ◌≢◌, ⊎_elim, ℕ, suc, ◌+◌, ◌<◌, ◌≤◌, ◌==◌, Bool, ◌&&◌, not, true, false, ◌-◌, List, length, get_or, sym, refl, ap, ◌∙◌, subst, arith, eq-eqb, ne_eqb}
 use Rattle.refl_types.specs.declared.types.Endpoint.{Endpoint}
 use Rattle.refl_types.specs.Same.{same_key, same_endpoint, same_mode}
-use Rattle.refl_types.proofs.SameFacts.{endpoint_same}
+use Rattle.session_desk.proofs.KeyFacts.{endpoint_same}
 use Rattle.std.proofs.lemmas.Bool.{eqb-true}
 use Rattle.session_key.specs.Matching.{excludes}
 use Rattle.session_key.specs.Placing.{place_of}
 use Rattle.session_world.specs.declared.steps.TableSize.{TableSize}
 use Rattle.session_world.specs.Keys.{Key, distance, next_slot, start_of}
 use Rattle.session_world.specs.Desk.{start_of_key}
-use Rattle.session_world.proofs.BoolFacts.{number_case, true_ne_false, is_false, both, and_i, either_of}
-use Rattle.session_world.proofs.KeyFacts.{same_key_eq}
-use Rattle.session_world.proofs.Walks.{distance_low, distance_same, distance_start, distance_next}
+use Rattle.session_desk.proofs.BoolFacts.{number_case, true_ne_false, is_false, both, and_i, either_of}
+use Rattle.session_desk.proofs.KeyFacts.{same_key_eq}
+use Rattle.session_world.specs.Walks.{WalksGoRound}
 use Rattle.session_desk.specs.declared.session.Slot.{Slot}
 use Rattle.session_desk.specs.Sessions.{is_of}
 use Rattle.session_desk.specs.Slots.{is_taken, taken_in, session_in, key_in, IsAlone, Reaches}
@@ -27,25 +27,21 @@ pub record Walked (n start at passed : ℕ) (P : ℕ → Type 0) : Type 0 where
   pub here : passed < n → distance n start at ≡ passed
   pub before : (j : ℕ) → j < n → distance n start j < passed → P j
 
-pub walked_none : (n start : ℕ) (P : ℕ → Type 0) → start < n → Walked n start start 0 P
-walked_none n start P lt = record { some = lt; inside = lt; here = λ _. distance_start n start; before = λ j l d. absurd (omega (arith, d)) }
+pub walked_none : WalksGoRound → (n start : ℕ) (P : ℕ → Type 0) → start < n → Walked n start start 0 P
+walked_none w n start P lt = record { some = lt; inside = lt; here = λ _. w.at_start n start; before = λ j l d. absurd (omega (arith, d)) }
 
-next_low : (n i : ℕ) → i < n → next_slot n i < n
-unfolding next_slot
-next_low n i lt = number_case (i + 1) n (λ (e : i + 1 ≡ n). rw (eq-eqb (i + 1) n e) (omega arith)) (λ (m : i + 1 ≢ n). rw (ne_eqb (i + 1) n m) (omega (arith, m)))
-
-pub walked_more : (n start at passed : ℕ) (P : ℕ → Type 0) → Walked n start at passed P → passed < n → P at → Walked n start (next_slot n at) (passed + 1) P
-walked_more n start at passed P w lt p = let h = w.here lt in record {
+pub walked_more : WalksGoRound → (n start at passed : ℕ) (P : ℕ → Type 0) → Walked n start at passed P → passed < n → P at → Walked n start (next_slot n at) (passed + 1) P
+walked_more laws n start at passed P w lt p = let h = w.here lt in record {
   some = w.some;
-  inside = next_low n at w.inside;
-  here = λ (l : passed + 1 < n). distance_next n start at w.some w.inside (λ (e : suc (distance n start at) ≡ n). omega (arith, e, h, l)) ∙ (omega (arith, h));
+  inside = laws.next_inside n at w.inside;
+  here = λ (l : passed + 1 < n). laws.further n start at w.some w.inside (λ (e : suc (distance n start at) ≡ n). omega (arith, e, h, l)) ∙ (omega (arith, h));
   before = λ j l d. number_case (distance n start j) passed
-      (λ (e : distance n start j ≡ passed). subst P (distance_same n start at j w.some w.inside l (h ∙ sym e)) p)
+      (λ (e : distance n start j ≡ passed). subst P (laws.same n start at j w.some w.inside l (h ∙ sym e)) p)
       (λ (m : distance n start j ≢ passed). w.before j l (omega (arith, d, m)));
 }
 
-pub walked_all : (n start at passed : ℕ) (P : ℕ → Type 0) → Walked n start at passed P → n ≤ passed → (j : ℕ) → j < n → P j
-walked_all n start at passed P w le j lt = let d = distance_low n start j w.some lt in w.before j lt (omega (arith, d, le))
+pub walked_all : WalksGoRound → (n start at passed : ℕ) (P : ℕ → Type 0) → Walked n start at passed P → n ≤ passed → (j : ℕ) → j < n → P j
+walked_all laws n start at passed P w le j lt = let d = laws.low n start j w.some lt in w.before j lt (omega (arith, d, le))
 
 pub start_is : (slots local : ℕ) (peer : Endpoint) → start_of slots local peer ≡ place_of local peer slots
 unfolding start_of
@@ -83,12 +79,12 @@ none_excludes z ss far k at passed start w e le r i lt t x =
 
 -- ---- the reach of a start ends before a slot that no session from there is in
 
-pub nearer : (z : TableSize) (ss : List Slot) (start at far j : ℕ) → z.slots ≡ length ss → start < length ss → at < length ss → distance (length ss) start at ≡ far - 1 → 0 < far
+pub nearer : WalksGoRound → (z : TableSize) (ss : List Slot) (start at far j : ℕ) → z.slots ≡ length ss → start < length ss → at < length ss → distance (length ss) start at ≡ far - 1 → 0 < far
     → (is_taken (taken_in ss at) && (place_of (key_in ss at).local (key_in ss at).peer (length ss) == start)) ≡ false
     → j < z.slots → is_taken (taken_in ss j) ≡ true → start_of_key z (key_in ss j) ≡ start → distance z.slots start j < far → distance z.slots start j < far - 1
-nearer z ss start at far j e ls la d pos out lj t s near = number_case (distance z.slots start j) (far - 1)
+nearer laws z ss start at far j e ls la d pos out lj t s near = number_case (distance z.slots start j) (far - 1)
     (λ (same : distance z.slots start j ≡ far - 1).
-    let here : j ≡ at = distance_same z.slots start j at (omega (arith, e, ls)) lj (omega (arith, e, la)) (same ∙ sym d ∙ ap (λ (n : ℕ). distance n start at) (sym e)) in
+    let here : j ≡ at = laws.same z.slots start j at (omega (arith, e, ls)) lj (omega (arith, e, la)) (same ∙ sym d ∙ ap (λ (n : ℕ). distance n start at) (sym e)) in
     let begins : place_of (key_in ss at).local (key_in ss at).peer (length ss) ≡ start = ap (λ (i : ℕ). place_of (key_in ss i).local (key_in ss i).peer (length ss)) (sym here) ∙ ap (place_of (key_in ss j).local (key_in ss j).peer) (sym e) ∙ sym (start_is z.slots (key_in ss j).local (key_in ss j).peer) ∙ s in
     absurd (true_ne_false (sym (and_i _ _ (ap (λ (i : ℕ). is_taken (taken_in ss i)) (sym here) ∙ t) (eq-eqb _ _ begins)) ∙ out)))
     (λ (other : distance z.slots start j ≢ far - 1). omega (arith, near, other, pos))

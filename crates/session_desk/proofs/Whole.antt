@@ -17,9 +17,9 @@ use Rattle.session_world.specs.declared.steps.Step.{Step}
 use Rattle.session_world.specs.Keys.{is_auth, has_key, distance}
 use Rattle.session_world.specs.Desk.{start_of_key}
 use Rattle.session_world.specs.Answers.{desk_answers}
-use Rattle.session_world.proofs.BoolFacts.{both, not_true, is_false, true_ne_false, or_l, or_r, or_none}
+use Rattle.session_desk.proofs.BoolFacts.{both, not_true, is_false, true_ne_false, or_l, or_r, or_none}
 use Rattle.session_world.specs.Allowed.{DeskDid}
-use Rattle.session_world.proofs.Walks.{distance_low}
+use Rattle.session_world.specs.Walks.{WalksGoRound}
 use Rattle.session_rule.specs.declared.seats.Table.{Table}
 use Rattle.session_rule.specs.declared.seats.Seat.{Seat}
 use Rattle.session_rule.specs.Seats.{desk_steps}
@@ -39,12 +39,12 @@ use Rattle.session_desk.proofs.Reserving.{only_then, only_quiet, same_answers, d
 use Rattle.session_desk.proofs.Reserved.{scans_kept, widened, still_in_range}
 use Rattle.session_desk.proofs.Seated.{reserved_slot, steps_after, slot_fits, rows_of_all, answers_of_all, only_all}
 
-pub reserve_keeps : (z : TableSize) (ds made : List Step) (rb rc : Rows) (ss : List Slot) (ls rs ks far words : List ℕ) (k : Key) (x : Extra) (c : ConfigParts) (row wait start : ℕ) (p : Place) → IsKept z ds rb ss ls rs ks far
+pub reserve_keeps : WalksGoRound → (z : TableSize) (ds made : List Step) (rb rc : Rows) (ss : List Slot) (ls rs ks far words : List ℕ) (k : Key) (x : Extra) (c : ConfigParts) (row wait start : ℕ) (p : Place) → IsKept z ds rb ss ls rs ks far
     → IsFirst ss z.workers words start p.slot → start ≡ start_of_key z k → start < z.slots → IsAlone z ss k → (is_auth k ≡ true → has_key c ≡ true) → HasRow rb rc c row made
     → key_of_words (key_words k x) ≡ k → extra_of_words (key_words k x) ≡ x → (FitsConfig c → config_of_words (row_words c) ≡ c)
     → DeskDid z (steps_after p row k x made (scans_of z.workers words ++ ds))
     → IsKept z (steps_after p row k x made (scans_of z.workers words ++ ds)) rc (set ss p.slot (reserved_slot k x row p wait)) ls (rs ++ p.slot ∷ []) (ks ++ p.slot ∷ []) (set far start (max (get_or far start 0) (distance z.slots start p.slot + 1)))
-reserve_keeps z ds made rb rc ss ls rs ks far words k x c row wait start p kept f e sl alone keyed h kb xb cb did =
+reserve_keeps laws z ds made rb rc ss ls rs ks far words k x c row wait start p kept f e sl alone keyed h kb xb cb did =
     let i = p.slot in let scans = scans_of z.workers words in let es = scans ++ ds in
     let lt : i < z.slots = subst (λ (n : ℕ). i < n) kept.slots.count f.inside in
     let free = not_true _ (both _ _ f.free).0 in
@@ -61,7 +61,7 @@ reserve_keeps z ds made rb rc ss ls rs ks far words k x c row wait start p kept 
     (answers_of_all es made rb rc k x c row p h ∙ same_answers {i = i} scans ds (scans_quiet z.workers words))
     (widened z ss far start i (reserved_slot k x row p wait) f.inside far_long e kept.reach)
     (length-set _ _ _ ∙ kept.width)
-    (still_in_range z.slots far start _ far_long (let r = kept.range start in let d = distance_low z.slots start i sl lt in omega (arith, r, d)) kept.range)
+    (still_in_range z.slots far start _ far_long (let r = kept.range start in let d = laws.low z.slots start i sl lt in omega (arith, r, d)) kept.range)
 
 -- ---- the first free slot, as contracts see it
 

@@ -16,7 +16,7 @@ use Rattle.session_world.specs.declared.steps.Step.TheVariants.{WriteRow, WriteK
 use Rattle.session_world.specs.Keys.{Key, Extra, put, row_list, config_of, IsConfigRow, key_list, key_of, extra_of, IsKey}
 use Rattle.session_world.specs.Desk.{rows_written, row_word_of, config_at, generation_of, is_open, scanned_since, written_since, key_word_of, key_of_slot, extra_of_slot, IsComplete, HasPath, start_of_key, MayReuse}
 use Rattle.session_world.specs.Allowed.{DeskMay, MayReserve}
-use Rattle.session_world.proofs.BoolFacts.{number_case, or_l, or_r, and_i, not_false, no_or}
+use Rattle.session_desk.proofs.BoolFacts.{number_case, or_l, or_r, and_i, not_false, no_or}
 use Rattle.session_rule.specs.declared.seats.Table.{Table}
 use Rattle.session_rule.specs.declared.seats.Seat.{Seat}
 use Rattle.session_rule.specs.Seats.{desk_steps, DeskHasMade}

@@ -9,3 +9,6 @@ pub mod Ticking
 pub mod Passing
 pub mod Parting
 pub mod Makes
+pub mod Fits
+pub mod Going
+pub mod Promises

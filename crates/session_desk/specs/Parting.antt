@@ -1,15 +1,16 @@
 -- The book at first, and workers that are split off by it and joined by it (this project's own).
 use Rattle.std.specs.Prelude.{◌≡◌, []}
 use Rattle.session_world.specs.declared.steps.TableSize.{TableSize}
+use Rattle.session_world.specs.Sizes.{IsWithinLimits}
 use Rattle.session_rule.specs.declared.seats.Table.{Table}
 use Rattle.session_rule.specs.declared.seats.Seat.{Seat}
 use Rattle.session_rule.specs.declared.seats.WorkerSeat.{WorkerSeat}
-use Rattle.session_rule.specs.Seats.{IsNewTable, HasSplitOff, HasJoined}
+use Rattle.session_rule.specs.Seats.{desk_steps, joined_parts, IsDeskOfOneSchedule, HasSplitOff, HasJoined}
 use Rattle.session_desk.specs.Book.{Book}
 
 -- the seat is that of a table that was never used
 abbrev pub IsUnused : TableSize → Seat → Type 0
-IsUnused z s = (t : Table) × IsNewTable z t s
+IsUnused z s = IsWithinLimits z × (desk_steps s ≡ []) × (joined_parts s ≡ []) × IsDeskOfOneSchedule z [] []
 
 -- no row, no session
 abbrev pub first_book : Seat → TableSize → Book

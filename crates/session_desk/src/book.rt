@@ -4,8 +4,9 @@ ghost use Rattle.std.specs.Prelude.{◌≡◌, ◌<◌, ◌≤◌, ℕ, IfOk, If
 ghost use Rattle.refl_types.specs.Keys.{is_sound};
 ghost use Rattle.session_world.specs.Desk.{is_split};
 ghost use Rattle.session_rule.specs.declared.seats.Table.{Table};
-ghost use Rattle.session_rule.specs.Seats.{size_of, IsWorkerOf};
+ghost use Rattle.session_rule.specs.Seats.{size_of, IsNewTable, IsWorkerOf};
 ghost use Rattle.session_desk.specs.Book.{IsBookOf, steps_of};
+ghost use Rattle.session_desk.specs.Fits.{BookFits};
 ghost use Rattle.session_desk.specs.Parting.{IsUnused, first_book, HasSplit, IsJoined};
 ghost use Rattle.session_desk.specs.Makes.{Makes, admits, reserves, keeps_row, starts, abandons, sets, closes, closes_at, counts, ticks, tells_length, tells_key, tells_place};
 
@@ -27,7 +28,7 @@ use session_rule::{
     Seat, Table, TableSize, WorkerSeat, close_slot, join_worker, peek_slot, reconfigure,
     split_worker, start_slot,
 };
-use session_world::law_words;
+use session_world::{law_desk_did, law_desk_slots, law_walks, law_words};
 use slot_word::{law_closed, unpack};
 use std::alloc::Global;
 use std::marker::Model;
@@ -68,6 +69,7 @@ impl DeskBook {
     pub fn make(alloc: Global, seat: Seat, size: TableSize) -> Result<DeskBook, Memory>
         requires new { IsUnused size seat }
         ensures made { IfOk result (λ book. book ≡ first_book seat size) }
+        ensures same { (t : Table) → IsNewTable size t seat → IfOk result (IsBookOf t) }
     {
         let Ok(rows) = RowBook::make(alloc, size.rows) else {
             return Err(Memory);
@@ -99,12 +101,21 @@ impl DeskBook {
         })
     }
 
+    /// What the book says of its sessions and rows always holds. It costs nothing.
+    pub fn law_fits(&self)
+        ensures { BookFits self.now }
+    {
+        law_desk_did();
+        let _size = &self.size;
+    }
+
     /// Splits a worker off: the least number from 1 on that isn't split off now. It needs no memory, and always succeeds.
     pub fn split(&mut self, table: &Table) -> Result<WorkerSeat, Memory>
         requires same { IsBookOf table.now self.old }
         requires room { (j : ℕ) × (0 < j) × (j ≤ (size_of table.now).workers) × (is_split (steps_of self.old) j ≡ false) }
         ensures always { IsOk result }
         ensures split_off { IfOk result (HasSplit table.now self.old self.new) }
+        ensures same { IsBookOf table.now self.new }
     {
         let Ok(worker) = split_worker(table, &mut self.seat) else {
             unreachable!();
@@ -116,7 +127,8 @@ impl DeskBook {
     pub fn join(&mut self, table: &Table, worker: WorkerSeat)
         requires same { IsBookOf table.now self.old }
         requires worker { IsWorkerOf table.now worker }
-        ensures { IsJoined table.now self.old worker self.new }
+        ensures joined { IsJoined table.now self.old worker self.new }
+        ensures same { IsBookOf table.now self.new }
     {
         join_worker(table, &mut self.seat, worker);
     }
@@ -156,12 +168,16 @@ impl DeskBook {
     ) -> Result<Place, ReserveFault>
         requires same { IsBookOf table.now self.old }
         requires sound { is_sound key.now extra.now ≡ true }
-        ensures { Makes table.now (reserves key.now extra.now config.now wait result) self.old self.new }
+        ensures made { Makes table.now (reserves key.now extra.now config.now wait result) self.old self.new }
+        ensures same { IsBookOf table.now self.new }
     {
         if let Err(fault) = self.admits(key, config) {
             return Err(fault);
         }
         law_configs();
+        law_desk_did();
+        law_desk_slots();
+        law_walks();
         let words = scan_all(table, &mut self.seat, self.size.workers);
         let start = place(key.local, &key.peer, self.size.slots);
         let Some(at) = free_slot(&self.slots, &words, self.size.workers, start) else {
@@ -190,9 +206,11 @@ impl DeskBook {
     /// Gives a configuration a row, if it has none, so that no session with it is refused for want of rows.
     pub fn keep_row(&mut self, table: &Table, config: &Config) -> Result<(), RowsFull>
         requires same { IsBookOf table.now self.old }
-        ensures { Makes table.now (keeps_row config.now result) self.old self.new }
+        ensures made { Makes table.now (keeps_row config.now result) self.old self.new }
+        ensures same { IsBookOf table.now self.new }
     {
         law_configs();
+        law_desk_did();
         let Ok(_row) = use_row(table, &mut self.seat, &mut self.rows, config) else {
             return Err(RowsFull);
         };
@@ -202,12 +220,15 @@ impl DeskBook {
     /// Opens the reserved session of a place, with count 0, and notes its word at the moment `now`, in nanoseconds.
     pub fn start(&mut self, table: &Table, place: &Place, now: u64) -> Result<(), NoSuch>
         requires same { IsBookOf table.now self.old }
-        ensures { Makes table.now (starts place.now now result) self.old self.new }
+        ensures made { Makes table.now (starts place.now now result) self.old self.new }
+        ensures same { IsBookOf table.now self.new }
     {
         if !is_reserved_at(&self.slots, place) {
             return Err(NoSuch);
         }
         law_closed();
+        law_desk_did();
+        law_desk_slots();
         let word = start_slot(table, &mut self.seat, place.slot);
         start_at(&mut self.slots, place.slot, word, now);
         drop_slot(&mut self.reserved, place.slot);
@@ -217,7 +238,8 @@ impl DeskBook {
 
     /// Gives up the reserved session of a place.
     pub fn abandon(&mut self, place: &Place) -> Result<(), NoSuch>
-        ensures { (t : Table) → Makes t (abandons place.now result) self.old self.new }
+        ensures made { (t : Table) → Makes t (abandons place.now result) self.old self.new }
+        ensures same { (t : Table) → IsBookOf t self.old → IsBookOf t self.new }
     {
         if !is_reserved_at(&self.slots, place) {
             return Err(NoSuch);
@@ -233,7 +255,8 @@ impl DeskBook {
     /// Gives the live session of a key another configuration.
     pub fn set(&mut self, table: &Table, key: &Key, config: &Config) -> Result<(), SetFault>
         requires same { IsBookOf table.now self.old }
-        ensures { Makes table.now (sets key.now config.now result) self.old self.new }
+        ensures made { Makes table.now (sets key.now config.now result) self.old self.new }
+        ensures same { IsBookOf table.now self.new }
     {
         let Some(at) = live_slot_of(&self.slots, &self.reach, key) else {
             return Err(SetFault::NoSuch);
@@ -242,6 +265,7 @@ impl DeskBook {
             return Err(SetFault::NoKey);
         }
         law_configs();
+        law_desk_did();
         let Ok(row) = use_row(table, &mut self.seat, &mut self.rows, config) else {
             return Err(SetFault::RowsFull);
         };
@@ -254,7 +278,8 @@ impl DeskBook {
     /// Closes the live session of a key. Answers how many numbers it had drawn, modulo 2^32.
     pub fn close(&mut self, table: &Table, key: &Key) -> Result<u32, NoSuch>
         requires same { IsBookOf table.now self.old }
-        ensures { Makes table.now (closes key.now result) self.old self.new }
+        ensures made { Makes table.now (closes key.now result) self.old self.new }
+        ensures same { IsBookOf table.now self.new }
     {
         let Some(at) = live_slot_of(&self.slots, &self.reach, key) else {
             return Err(NoSuch);
@@ -270,7 +295,8 @@ impl DeskBook {
 
     /// Sets the moment, in nanoseconds, from which on a tick closes the live session of a key. It replaces an earlier one.
     pub fn close_at(&mut self, key: &Key, moment: u64) -> Result<(), NoSuch>
-        ensures { (t : Table) → Makes t (closes_at key.now moment result) self.old self.new }
+        ensures made { (t : Table) → Makes t (closes_at key.now moment result) self.old self.new }
+        ensures same { (t : Table) → IsBookOf t self.old → IsBookOf t self.new }
     {
         let Some(at) = live_slot_of(&self.slots, &self.reach, key) else {
             return Err(NoSuch);
@@ -282,7 +308,8 @@ impl DeskBook {
     /// Counts the numbers that the live session of a key has drawn, modulo 2^32.
     pub fn count(&mut self, table: &Table, key: &Key) -> Result<u32, NoSuch>
         requires same { IsBookOf table.now self.old }
-        ensures { Makes table.now (counts key.now result) self.old self.new }
+        ensures made { Makes table.now (counts key.now result) self.old self.new }
+        ensures same { IsBookOf table.now self.new }
     {
         let Some(at) = live_slot_of(&self.slots, &self.reach, key) else {
             return Err(NoSuch);
@@ -297,7 +324,8 @@ impl DeskBook {
     /// draws meanwhile; where its word has changed it is noted anew.
     pub fn tick(&mut self, table: &Table, now: u64) -> Ticked
         requires same { IsBookOf table.now self.old }
-        ensures { Makes table.now (ticks now result) self.old self.new }
+        ensures made { Makes table.now (ticks now result) self.old self.new }
+        ensures same { IsBookOf table.now self.new }
     {
         law_words();
         let ticked = pass_all(

@@ -14,6 +14,7 @@ use crate::slots::slot_at;
 use crate::writing::is_named;
 use refl_types::{Key, Place};
 use session_key::place;
+use session_world::law_walks;
 use slot_word::GREATEST_GENERATION;
 
 /// Whether the slot of a place is reserved under that place.
@@ -64,6 +65,7 @@ pub fn slot_of(slots: &[Slot], reach: &[u32], key: &Key) -> Option<u32>
     ensures found { IfSome result (λ i. (i < length slots.now) × (is_taken (taken_in slots.now i) ≡ true) × (is_of key.now (session_in slots.now i) ≡ true)) }
     ensures none { IfNone result ((z : TableSize) → z.slots ≡ length slots.now → Reaches z slots.now reach.now → (i : ℕ) → i < z.slots → is_taken (taken_in slots.now i) ≡ true → is_of key.now (session_in slots.now i) ≡ false) }
 {
+    law_walks();
     let count = slots.len() as u32;
     let mut at = place(key.local, &key.peer, count);
     for _ in 0..reach[at as usize] {
@@ -136,6 +138,7 @@ pub fn free_slot(slots: &[Slot], words: &[u64; 64], workers: u32, start: u32) ->
     ensures found { IfSome result (λ i. IsFirst slots.now workers words.now start i) }
     ensures none { IfNone result ((j : ℕ) → j < length slots.now → may_take slots.now workers words.now j ≡ false) }
 {
+    law_walks();
     let count = slots.len() as u32;
     let mut at = start;
     for _ in 0..count {
@@ -181,6 +184,7 @@ pub fn excluding(slots: &[Slot], reach: &[u32], key: &Key) -> Option<u32>
     ensures found { IfSome result (λ i. (i < length slots.now) × ((is_taken (taken_in slots.now i) && excludes (session_in slots.now i).key key.now) ≡ true)) }
     ensures none { IfNone result ((z : TableSize) → z.slots ≡ length slots.now → Reaches z slots.now reach.now → IsAlone z slots.now key.now) }
 {
+    law_walks();
     let count = slots.len() as u32;
     let mut at = place(key.local, &key.peer, count);
     for _ in 0..reach[at as usize] {

@@ -9,6 +9,7 @@ ghost use Rattle.session_desk.specs.Slots.{key_in, taken_in, is_taken, Reaches};
 use crate::session::{Slot, Use};
 use crate::slots::slot_at;
 use session_key::place;
+use session_world::law_walks;
 use std::alloc::{AllocError, Global};
 
 /// The reach of as many slots where there are no sessions.
@@ -85,6 +86,7 @@ pub fn shrink(reach: &mut Vec<u32>, slots: &[Slot], start: u32)
     ensures range { (i : ℕ) → slice_index_or reach.new.items i 0 ≤ length slots.now }
     ensures reaches { (z : TableSize) → z.slots ≡ length slots.now → Reaches z slots.now reach.old.items → Reaches z slots.now reach.new.items }
 {
+    law_walks();
     let count = slots.len() as u32;
     let mut far = reach[start as usize];
     while far > 0 && !starts_at(slots, slot_after(count, start, far - 1), start) {

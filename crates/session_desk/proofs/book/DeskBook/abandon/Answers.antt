@@ -1,6 +1,6 @@
 use Rattle.std.proofs.Common.{◌≡◌, ◌<◌, ◌∙◌, List, ap, sym, subst, refl, arith, true, length}
 use Rattle.std.proofs.lemmas.List.{length-set}
-use Rattle.session_world.proofs.BoolFacts.{both}
+use Rattle.session_desk.proofs.BoolFacts.{both}
 use Rattle.session_desk.specs.declared.session.Slot.{Slot}
 use Rattle.session_desk.specs.Slots.{is_reserving}
 use Rattle.session_desk.specs.Kept.{book_of}
@@ -10,8 +10,8 @@ use Rattle.session_desk.proofs.Keeping.{kept_by, seen_by, shrunk_by, is_small, n
 use Rattle.session_desk.proofs.Setting.{abandon_kept, abandon_does}
 use Rattle.session_desk.proofs.book.DeskBook.abandon.Goals as goal
 
-pub returns-then-not-is_reserved_at : goal.returns-then-not-is_reserved_at
-returns-then-not-is_reserved_at c = λ t. let k = c.self.invariant.0 in
+pub returns-then-not-is_reserved_at-clause-made : goal.returns-then-not-is_reserved_at-clause-made
+returns-then-not-is_reserved_at-clause-made c = λ t. let k = c.self.invariant.0 in
     (subst (λ b. HasNoPlace b c.args.place.now) c.self.view_is (no_place _ _ _ _ c.args.place.now k.slots k.reserved (ap (λ ss. reserved_at ss c.args.place.now) (sym c.deref.ensures.value) ∙ sym c.is_reserved_at.ensures ∙ c.if-not-is_reserved_at.true)), refl)
 
 pub free_at-requires : goal.free_at-requires
@@ -48,8 +48,8 @@ invariant_of-self c = let k = c.self.invariant.0 in let s = c.shrink.ensures in 
   (let a = c.self.invariant.4 in let r = c.drop_slot-2.ensures.room in omega (arith, a, r)),
 )
 
-pub returns : goal.returns
-returns c = λ t. let k = c.self.invariant.0 in
+pub returns-clause-made : goal.returns-clause-made
+returns-clause-made c = λ t. let k = c.self.invariant.0 in
     subst (λ b. HasAbandoned b c.args.place.now (book_of c.self.inside.seat c.self.inside.size c.self.inside.rows c.free_at.new.slots.items c.self.inside.live.items c.drop_slot.new.order.items c.drop_slot-2.new.order.items)) c.self.view_is
     (seen_by (HasAbandoned (book_of c.self.inside.seat c.self.inside.size c.self.inside.rows c.self.inside.slots.items c.self.inside.live.items c.self.inside.reserved.items c.self.inside.taken.items) c.args.place.now) _ _ _ _ _ _ _ _ _ _ _ c.free_at.ensures refl c.drop_slot.ensures.items c.drop_slot-2.ensures.items
     (abandon_does _ _ _ _ _ _ _ _ c.args.place.now k (there c)))

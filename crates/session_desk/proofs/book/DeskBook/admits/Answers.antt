@@ -5,7 +5,7 @@ use Rattle.config_rows.specs.Rows.{IsSought}
 use Rattle.config_rows.specs.declared.book.Sought.TheVariants.{RowsFull}
 use Rattle.session_key.specs.Matching.{excludes}
 use Rattle.session_world.specs.Keys.{is_auth}
-use Rattle.session_world.proofs.BoolFacts.{both, not_true, no_not, true_ne_false}
+use Rattle.session_desk.proofs.BoolFacts.{both, not_true, no_not, true_ne_false}
 use Rattle.session_desk.specs.declared.session.ReserveFault.TheVariants.{Duplicate}
 use Rattle.session_desk.specs.declared.session.Slot.{Slot}
 use Rattle.session_desk.specs.Sessions.{has_mode_clash}

@@ -11,8 +11,8 @@ use Rattle.session_desk.proofs.Keeping.{kept_by, seen_by, shrunk_by, is_small, n
 use Rattle.session_desk.proofs.Closing.{close_kept, close_does}
 use Rattle.session_desk.proofs.book.DeskBook.close.Goals as goal
 
-pub returns-in_default : goal.returns-in_default
-returns-in_default c = (subst (λ b. IsNotLive b c.args.key.now) c.self.view_is (not_live_by _ _ _ _ _ _ _ _ _ _ c.args.key.now c.self.invariant.0 c.deref.ensures.value c.deref-2.ensures.value c.in_default.ensures.none), refl)
+pub returns-in_default-clause-made : goal.returns-in_default-clause-made
+returns-in_default-clause-made c = (subst (λ b. IsNotLive b c.args.key.now) c.self.view_is (not_live_by _ _ _ _ _ _ _ _ _ _ c.args.key.now c.self.invariant.0 c.deref.ensures.value c.deref-2.ensures.value c.in_default.ensures.none), refl)
 
 pub free_at-requires : goal.free_at-requires
 free_at-requires c = let f = c.in-Some.ensures.found in subst (λ (ss : List Slot). c.in-Some.at < length ss) c.deref.ensures.value f.0
@@ -50,8 +50,8 @@ invariant_of-self c = let k = c.self.invariant.0 in let s = c.shrink.ensures in 
   (let a = c.self.invariant.4 in let r = c.drop_slot-2.ensures.room in omega (arith, a, r)),
 )
 
-pub returns : goal.returns
-returns c = let k = c.self.invariant.0 in let i = c.in-Some.at in
+pub returns-clause-made : goal.returns-clause-made
+returns-clause-made c = let k = c.self.invariant.0 in let i = c.in-Some.at in
     subst (λ n. HasClosed c.args.table.now c.args.self.now c.args.key.now (book_of c.close_slot-word.new.seat c.self.inside.size c.self.inside.rows c.free_at.new.slots.items c.drop_slot.new.order.items c.self.inside.reserved.items c.drop_slot-2.new.order.items) n) (sym c.unpack.ensures.sequence)
     (subst (λ b. HasClosed c.args.table.now b c.args.key.now (book_of c.close_slot-word.new.seat c.self.inside.size c.self.inside.rows c.free_at.new.slots.items c.drop_slot.new.order.items c.self.inside.reserved.items c.drop_slot-2.new.order.items) (sequence_in c.close_slot-word.result)) c.self.view_is
     (seen_by (λ b. HasClosed c.args.table.now (book_of c.self.inside.seat c.self.inside.size c.self.inside.rows c.self.inside.slots.items c.self.inside.live.items c.self.inside.reserved.items c.self.inside.taken.items) c.args.key.now b (sequence_in c.close_slot-word.result)) _ _ _ _ _ _ _ _ _ _ _ c.free_at.ensures c.drop_slot.ensures.items refl c.drop_slot-2.ensures.items

@@ -8,8 +8,8 @@ use Rattle.session_desk.proofs.Keeping.{kept_by, seen_by, not_live_by}
 use Rattle.session_desk.proofs.Changing.{closing_kept, closing_does}
 use Rattle.session_desk.proofs.book.DeskBook.close_at.Goals as goal
 
-pub returns-in_default : goal.returns-in_default
-returns-in_default c = λ t. (subst (λ b. IsNotLive b c.args.key.now) c.self.view_is (not_live_by _ _ _ _ _ _ _ _ _ _ c.args.key.now c.self.invariant.0 c.deref.ensures.value c.deref-2.ensures.value c.in_default.ensures.none), refl)
+pub returns-in_default-clause-made : goal.returns-in_default-clause-made
+returns-in_default-clause-made c = λ t. (subst (λ b. IsNotLive b c.args.key.now) c.self.view_is (not_live_by _ _ _ _ _ _ _ _ _ _ c.args.key.now c.self.invariant.0 c.deref.ensures.value c.deref-2.ensures.value c.in_default.ensures.none), refl)
 
 pub set_closing_at-requires : goal.set_closing_at-requires
 set_closing_at-requires c = let f = c.in-Some.ensures.found in subst (λ (ss : List Slot). c.in-Some.at < length ss) c.deref.ensures.value f.0
@@ -29,8 +29,8 @@ invariant_of-self c = let k = c.self.invariant.0 in (
   c.self.invariant.4,
 )
 
-pub returns : goal.returns
-returns c = λ t. let k = c.self.invariant.0 in
+pub returns-clause-made : goal.returns-clause-made
+returns-clause-made c = λ t. let k = c.self.invariant.0 in
     subst (λ b. ClosesLater b c.args.key.now c.args.moment (book_of c.self.inside.seat c.self.inside.size c.self.inside.rows c.set_closing_at.new.slots.items c.self.inside.live.items c.self.inside.reserved.items c.self.inside.taken.items)) c.self.view_is
     (seen_by (ClosesLater (book_of c.self.inside.seat c.self.inside.size c.self.inside.rows c.self.inside.slots.items c.self.inside.live.items c.self.inside.reserved.items c.self.inside.taken.items) c.args.key.now c.args.moment) _ _ _ _ _ _ _ _ _ _ _ c.set_closing_at.ensures refl refl refl
     (closing_does _ _ _ _ _ _ _ _ c.args.key.now c.in-Some.at c.args.moment k (live c) (at_key c)))

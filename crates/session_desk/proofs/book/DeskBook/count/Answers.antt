@@ -12,8 +12,8 @@ use Rattle.session_desk.proofs.Closing.{peek_kept, count_does}
 use Rattle.session_desk.proofs.Scheduled.{word_peeked}
 use Rattle.session_desk.proofs.book.DeskBook.count.Goals as goal
 
-pub returns-in_default : goal.returns-in_default
-returns-in_default c = (subst (λ b. IsNotLive b c.args.key.now) c.self.view_is (not_live_by _ _ _ _ _ _ _ _ _ _ c.args.key.now c.self.invariant.0 c.deref.ensures.value c.deref-2.ensures.value c.in_default.ensures.none), refl)
+pub returns-in_default-clause-made : goal.returns-in_default-clause-made
+returns-in_default-clause-made c = (subst (λ b. IsNotLive b c.args.key.now) c.self.view_is (not_live_by _ _ _ _ _ _ _ _ _ _ c.args.key.now c.self.invariant.0 c.deref.ensures.value c.deref-2.ensures.value c.in_default.ensures.none), refl)
 
 live : (c : goal.After-unpack) → is_live (taken_in c.self.inside.slots.items c.in-Some.at) ≡ true
 live c = let f = c.in-Some.ensures.found in ap (λ (ss : List Slot). is_live (taken_in ss c.in-Some.at)) (sym c.deref.ensures.value) ∙ f.1
@@ -33,8 +33,8 @@ invariant_of-self c = let k = c.self.invariant.0 in (
   c.self.invariant.4,
 )
 
-pub returns : goal.returns
-returns c = let k = c.self.invariant.0 in let i = c.in-Some.at in
+pub returns-clause-made : goal.returns-clause-made
+returns-clause-made c = let k = c.self.invariant.0 in let i = c.in-Some.at in
     let word : IsWordOf (desk_steps c.self.inside.seat) i c.peek_slot-word.result = word_peeked c.law_words.ensures _ _ _ _ i c.peek_slot-word.result k.limits c.peek_slot-word.ensures.step (schedule c) in
     subst (λ n. HasCounted c.args.table.now c.args.self.now c.args.key.now (book_of c.peek_slot-word.new.seat c.self.inside.size c.self.inside.rows c.self.inside.slots.items c.self.inside.live.items c.self.inside.reserved.items c.self.inside.taken.items) n) (sym c.unpack.ensures.sequence)
     (subst (λ b. HasCounted c.args.table.now b c.args.key.now (book_of c.peek_slot-word.new.seat c.self.inside.size c.self.inside.rows c.self.inside.slots.items c.self.inside.live.items c.self.inside.reserved.items c.self.inside.taken.items) (sequence_in c.peek_slot-word.result)) c.self.view_is

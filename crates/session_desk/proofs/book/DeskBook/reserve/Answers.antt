@@ -6,7 +6,7 @@ use Rattle.session_world.specs.declared.steps.TableSize.{TableSize}
 use Rattle.session_world.specs.declared.steps.Step.{Step}
 use Rattle.session_world.specs.Desk.{start_of_key}
 use Rattle.session_world.specs.Answers.{desk_answers}
-use Rattle.session_world.proofs.BoolFacts.{both, not_true}
+use Rattle.session_desk.proofs.BoolFacts.{both, not_true}
 use Rattle.session_world.specs.Allowed.{DeskDid}
 use Rattle.session_rule.specs.Seats.{size_of, IsDeskOfOneSchedule, joined_parts, desk_steps}
 use Rattle.session_desk.specs.declared.session.Use.TheVariants.{Reserved}
@@ -26,7 +26,6 @@ use Rattle.session_desk.specs.Writes.{scans_of, key_writes, reserve_step, IsRead
 use Rattle.session_desk.proofs.Walking.{start_is}
 use Rattle.session_desk.proofs.Keeping.{kept_by, seen_by, is_small}
 use Rattle.session_desk.proofs.Orders.{both_fit}
-use Rattle.session_desk.proofs.Scheduled.{desk_did}
 use Rattle.session_desk.proofs.Written.{scans_quiet}
 use Rattle.session_desk.proofs.Reserving.{same_answers}
 use Rattle.session_desk.proofs.Reserved.{scans_kept, is_ready, has_room_free, has_room_taken}
@@ -64,7 +63,7 @@ pub write_session-requires-clause-free : goal.write_session-requires-clause-free
 write_session-requires-clause-free c = let k = c.self.invariant.0 in let same = c.requires.same in
     subst (λ (z : TableSize). IsReady z (desk_steps c.scan_all-words.new.seat) c.next_place-place.result c.args.key.now) (sym (same.1 ∙ ap (λ b. b.size) (sym c.self.view_is)))
     (subst (λ (ds : List Step). IsReady c.self.inside.size ds c.next_place-place.result c.args.key.now) (sym c.scan_all-words.ensures.steps)
-    (is_ready c.self.inside.size _ _ c.scan_all-words.result c.place-start.result c.next_place-place.result c.args.key.now (desk_did _ _ _ k.limits c.self.invariant.1) k.slots (first_a c) (start_a c) (next_a c)))
+    (is_ready c.self.inside.size _ _ c.scan_all-words.result c.place-start.result c.next_place-place.result c.args.key.now (c.law_desk_slots.ensures _ _ (c.law_desk_did.ensures _ _ _ c.self.invariant.1)) k.slots (first_a c) (start_a c) (next_a c)))
 
 first_b : (c : goal.After-push_slot-arg-1) → IsFirst c.self.inside.slots.items c.self.inside.size.workers c.scan_all-words.result c.place-start.result c.next_place-place.result.slot
 first_b c = subst (IsFirst c.self.inside.slots.items c.self.inside.size.workers c.scan_all-words.result c.place-start.result) (sym (ap (λ (p : Place). p.slot) c.next_place-place.ensures))
@@ -122,9 +121,9 @@ pub invariant_of-self-2 : goal.invariant_of-self-2
 invariant_of-self-2 c = let k = c.self.invariant.0 in let w = c.in-Ok.ensures.written in let p = c.next_place-place.result in (
   subst (λ (far : List ℕ). IsKept c.self.inside.size (desk_steps c.write_session.new.seat) c.write_session.new.rows c.reserve_at.new.slots.items c.self.inside.live.items c.push_slot.new.order.items c.push_slot-2.new.order.items far) (sym c.widen.ensures)
       (kept_by _ _ _ _ _ _ _ _ _ _ _ _ _ (steps c) (put c) refl c.push_slot.ensures.items c.push_slot-2.ensures.items
-      (reserve_keeps c.self.inside.size (desk_steps c.self.inside.seat) w.made c.self.inside.rows c.write_session.new.rows c.self.inside.slots.items c.self.inside.live.items c.self.inside.reserved.items c.self.inside.taken.items c.self.inside.reach.items c.scan_all-words.result
+      (reserve_keeps c.law_walks.ensures c.self.inside.size (desk_steps c.self.inside.seat) w.made c.self.inside.rows c.write_session.new.rows c.self.inside.slots.items c.self.inside.live.items c.self.inside.reserved.items c.self.inside.taken.items c.self.inside.reach.items c.scan_all-words.result
       c.args.key.now c.args.extra.now c.args.config.now c.in-Ok.row c.args.wait c.place-start.result p k (first_c c) (start_c c) c.place-start.ensures.range (alone c) (no_cause c).keyed w.kept w.key_back w.extra_back (c.law_words.ensures.back c.args.config.now)
-      (subst (DeskDid c.self.inside.size) (steps c) (desk_did _ _ _ k.limits (schedule c))))),
+      (subst (DeskDid c.self.inside.size) (steps c) (c.law_desk_did.ensures _ _ _ (schedule c))))),
   schedule c,
   c.self.invariant.2,
   (let a = c.self.invariant.3 in let r = c.push_slot.ensures.room in omega (arith, a, r)),
@@ -139,16 +138,16 @@ added c = let w = c.in-Ok.ensures.written in let p = c.next_place-place.result i
   schedule = w.added.schedule;
 }
 
-pub returns : goal.returns
-returns c = let k = c.self.invariant.0 in let w = c.in-Ok.ensures.written in let p = c.next_place-place.result in let scans = scans_of c.self.inside.size.workers c.scan_all-words.result in
+pub returns-clause-made : goal.returns-clause-made
+returns-clause-made c = let k = c.self.invariant.0 in let w = c.in-Ok.ensures.written in let p = c.next_place-place.result in let scans = scans_of c.self.inside.size.workers c.scan_all-words.result in
     subst (λ b. HasReserved c.args.table.now b c.args.key.now c.args.extra.now c.args.config.now c.args.wait p (book_of c.write_session.new.seat c.self.inside.size c.write_session.new.rows c.reserve_at.new.slots.items c.self.inside.live.items c.push_slot.new.order.items c.push_slot-2.new.order.items)) c.self.view_is
     (seen_by (HasReserved c.args.table.now (book_of c.self.inside.seat c.self.inside.size c.self.inside.rows c.self.inside.slots.items c.self.inside.live.items c.self.inside.reserved.items c.self.inside.taken.items) c.args.key.now c.args.extra.now c.args.config.now c.args.wait p) _ _ _ _ _ _ _ _ _ _ _ (put c) refl c.push_slot.ensures.items c.push_slot-2.ensures.items
     (reserve_does c.args.table.now c.self.inside.size c.self.inside.seat c.write_session.new.seat w.made c.self.inside.rows c.write_session.new.rows c.self.inside.slots.items c.self.inside.live.items c.self.inside.reserved.items c.self.inside.taken.items c.self.inside.reach.items c.scan_all-words.result
     c.args.key.now c.args.extra.now c.args.config.now c.in-Ok.row c.args.wait c.place-start.result p k (first_c c) (start_c c) (next_c c) w.kept (added c)
     (ap desk_answers (steps c) ∙ answers_of_all (scans ++ desk_steps c.self.inside.seat) w.made c.self.inside.rows c.write_session.new.rows c.args.key.now c.args.extra.now c.args.config.now c.in-Ok.row p w.kept ∙ same_answers {i = p.slot} scans (desk_steps c.self.inside.seat) (scans_quiet c.self.inside.size.workers c.scan_all-words.result)) (no_cause c)))
 
-pub returns-in-Err : goal.returns-in-Err
-returns-in-Err c = let h = c.in-Err.ensures c.args.table.now in (refused_by c.args.self.now c.args.key.now c.args.config.now c.in-Err.fault h.0, unmoved_by c.args.table.now c.args.self.now c.args.key.now c.args.config.now c.in-Err.fault h.0)
+pub returns-in-Err-clause-made : goal.returns-in-Err-clause-made
+returns-in-Err-clause-made c = let h = c.in-Err.ensures c.args.table.now in (refused_by c.args.self.now c.args.key.now c.args.config.now c.in-Err.fault h.0, unmoved_by c.args.table.now c.args.self.now c.args.key.now c.args.config.now c.in-Err.fault h.0)
 
 pub want_of_slots-requires-clause-live : goal.want_of_slots-requires-clause-live
 want_of_slots-requires-clause-live c = let k = c.self.invariant.0 in let n = is_small _ _ _ _ _ _ _ _ k in let l = k.live.count in let f = both_fit c.self.inside.slots.items in omega (arith, n, l, f, c.len.ensures)
@@ -159,8 +158,8 @@ want_of_slots-requires-clause-reserved c = let k = c.self.invariant.0 in let n =
 pub unreachable-requires : goal.unreachable-requires
 unreachable-requires c = let n = c.in_default.ensures c.args.table.now in n.0.room (subst (λ b. IsSought b.rows c.args.config.now RowsFull) c.self.view_is c.in_default-write_session.ensures.full.0)
 
-pub returns-in_default-free_slot : goal.returns-in_default-free_slot
-returns-in_default-free_slot c = let k = c.self.invariant.0 in let ss = c.self.inside.slots.items in
+pub returns-in_default-free_slot-clause-made : goal.returns-in_default-free_slot-clause-made
+returns-in_default-free_slot-clause-made c = let k = c.self.invariant.0 in let ss = c.self.inside.slots.items in
     let b : Book = book_of c.self.inside.seat c.self.inside.size c.self.inside.rows ss c.self.inside.live.items c.self.inside.reserved.items c.self.inside.taken.items in
     let after : Book = book_of c.scan_all-words.new.seat c.self.inside.size c.self.inside.rows ss c.self.inside.live.items c.self.inside.reserved.items c.self.inside.taken.items in
     let live_len : c.len.result ≡ length c.self.inside.live.items = omega (arith, c.len.ensures) in

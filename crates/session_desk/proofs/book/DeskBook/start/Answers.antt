@@ -1,5 +1,5 @@
 use Rattle.std.proofs.Common.{◌≡◌, ◌∙◌, ap, sym, subst, refl, arith, true}
-use Rattle.session_world.proofs.BoolFacts.{both}
+use Rattle.session_desk.proofs.BoolFacts.{both}
 use Rattle.session_world.specs.Allowed.{DeskMay}
 use Rattle.session_world.specs.declared.steps.Step.TheVariants.{Start}
 use Rattle.session_rule.specs.Seats.{IsDeskOfOneSchedule, joined_parts, desk_steps}
@@ -8,11 +8,10 @@ use Rattle.session_desk.specs.Kept.{book_of}
 use Rattle.session_desk.specs.Calls.{HasNoPlace, HasStarted}
 use Rattle.session_desk.proofs.Orders.{has_room, is_inside}
 use Rattle.session_desk.proofs.Keeping.{kept_by, seen_by, start_kept, start_does, may_start, no_place, reserved_at}
-use Rattle.session_desk.proofs.Scheduled.{desk_did}
 use Rattle.session_desk.proofs.book.DeskBook.start.Goals as goal
 
-pub returns-then-not-is_reserved_at : goal.returns-then-not-is_reserved_at
-returns-then-not-is_reserved_at c = let k = c.self.invariant.0 in
+pub returns-then-not-is_reserved_at-clause-made : goal.returns-then-not-is_reserved_at-clause-made
+returns-then-not-is_reserved_at-clause-made c = let k = c.self.invariant.0 in
     (subst (λ b. HasNoPlace b c.args.place.now) c.self.view_is (no_place _ _ _ _ c.args.place.now k.slots k.reserved (ap (λ ss. reserved_at ss c.args.place.now) (sym c.deref.ensures.value) ∙ sym c.is_reserved_at.ensures ∙ c.if-not-is_reserved_at.true)), refl)
 
 pub start_slot-word-requires-clause-may : goal.start_slot-word-requires-clause-may
@@ -21,7 +20,7 @@ start_slot-word-requires-clause-may c n lt = let k = c.self.invariant.0 in
     let same = c.requires.same in
     let size = ap (λ b. b.size) (sym c.self.view_is) in
     subst (λ z. DeskMay z (desk_steps c.self.inside.seat) (Start c.args.place.now.slot n)) (sym (same.1 ∙ size))
-    (may_start _ _ _ _ n (desk_did _ _ _ k.limits c.self.invariant.1) k.slots (both _ _ there).0)
+    (may_start _ _ _ _ n (c.law_desk_slots.ensures _ _ (c.law_desk_did.ensures _ _ _ c.self.invariant.1)) k.slots (both _ _ there).0)
 
 pub start_at-requires : goal.start_at-requires
 start_at-requires c = let there : reserved_at c.self.inside.slots.items c.args.place.now ≡ true = ap (λ ss. reserved_at ss c.args.place.now) (sym c.deref.ensures.value) ∙ sym c.is_reserved_at.ensures ∙ c.if-not-is_reserved_at.false in
@@ -45,8 +44,8 @@ invariant_of-self c = let k = c.self.invariant.0 in let i = c.args.place.now.slo
   c.self.invariant.4,
 )
 
-pub returns : goal.returns
-returns c = let k = c.self.invariant.0 in
+pub returns-clause-made : goal.returns-clause-made
+returns-clause-made c = let k = c.self.invariant.0 in
     subst (λ b. HasStarted c.args.table.now b c.args.place.now c.args.now (book_of c.start_slot-word.new.seat c.self.inside.size c.self.inside.rows c.start_at.new.slots.items c.push_slot.new.order.items c.drop_slot.new.order.items c.self.inside.taken.items)) c.self.view_is
     (seen_by (HasStarted c.args.table.now (book_of c.self.inside.seat c.self.inside.size c.self.inside.rows c.self.inside.slots.items c.self.inside.live.items c.self.inside.reserved.items c.self.inside.taken.items) c.args.place.now c.args.now) _ _ _ _ _ _ _ _ _ _ _ c.start_at.ensures c.push_slot.ensures.items c.drop_slot.ensures.items refl
     (start_does c.args.table.now _ _ _ _ _ _ _ _ _ c.args.place.now c.start_slot-word.result c.args.now k (there c) c.start_slot-word.ensures))

@@ -46,8 +46,8 @@ invariant_of-self c = let k = c.self.invariant.0 in let h = c.pass_all-ticked.en
   (let a = c.self.invariant.4 in let r = c.keep_taken.ensures.room in omega (arith, a, r)),
 )
 
-pub returns : goal.returns
-returns c = let h = c.pass_all-ticked.ensures.passed in
+pub returns-clause-made : goal.returns-clause-made
+returns-clause-made c = let h = c.pass_all-ticked.ensures.passed in
     subst (λ b. HasTicked c.args.table.now b c.args.now c.pass_all-ticked.result (book_of c.pass_all-ticked.new.seat c.self.inside.size c.self.inside.rows c.pass_all-ticked.new.slots.items c.keep_live.new.order.items c.self.inside.reserved.items c.keep_taken.new.order.items)) c.self.view_is
     (seen_by (HasTicked c.args.table.now (book_of c.self.inside.seat c.self.inside.size c.self.inside.rows c.self.inside.slots.items c.self.inside.live.items c.self.inside.reserved.items c.self.inside.taken.items) c.args.now c.pass_all-ticked.result) _ _ _ _ _ _ _ _ _ _ _ h.slots_new (live_is c) refl (taken_is c)
     (record {
