@@ -1,0 +1,14 @@
+pub mod Sessions
+pub mod Book
+pub mod Slots
+pub mod Kept
+pub mod Calls
+pub mod Writes
+pub mod Refusals
+pub mod Ticking
+pub mod Passing
+pub mod Parting
+pub mod Makes
+pub mod Fits
+pub mod Going
+pub mod Promises
