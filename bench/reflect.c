@@ -1,3 +1,4 @@
+/* SPDX-License-Identifier: Apache-2.0 */
 /* A reference for bench/replay: replays STAMP and TWAMP-Test records as plain C would. It reads a stream of Open and
    Datagram records from standard input and writes the answers to standard output. It has NTP timestamps, the TLV types 1
    and 8, and no tail in authenticated mode; at anything else it ends with 3. */

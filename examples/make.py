@@ -1,3 +1,4 @@
+# SPDX-License-Identifier: Apache-2.0
 """Makes the octets of each .hex file beside it, as NAME.replay."""
 
 import pathlib

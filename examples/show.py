@@ -1,3 +1,4 @@
+# SPDX-License-Identifier: Apache-2.0
 """Replays a stream and prints each record beside its answer, with the fields named."""
 
 import itertools

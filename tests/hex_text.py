@@ -1,3 +1,4 @@
+# SPDX-License-Identifier: Apache-2.0
 """Octets as text: hexadecimal digits, COUNT*DIGITS for repetition, and # before a remark."""
 
 

@@ -1,3 +1,4 @@
+# SPDX-License-Identifier: Apache-2.0
 """Replay records, and the answers to them, by the tables of their formats."""
 
 import hashlib

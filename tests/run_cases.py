@@ -1,3 +1,4 @@
+# SPDX-License-Identifier: Apache-2.0
 """Runs all cases on a program and counts which pass."""
 
 import os

@@ -1,3 +1,4 @@
+# SPDX-License-Identifier: Apache-2.0
 """Cases that a pair of files does not say: how octets arrive, and tables of many inputs."""
 
 import os
