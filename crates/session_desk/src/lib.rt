@@ -9,8 +9,6 @@ mod reach;
 mod refusing;
 mod session;
 mod slots;
-#[cfg(test)]
-mod tests;
 mod ticking;
 mod writing;
 
