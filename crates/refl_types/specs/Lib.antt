@@ -3,3 +3,4 @@ pub mod Configs
 pub mod Spelling
 pub mod Same
 pub mod HmacKey
+pub mod Limits
