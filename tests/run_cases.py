@@ -53,10 +53,13 @@ def guarded(run, *args):
 
 def main():
     program = os.path.abspath(sys.argv[1])
-    folder = pathlib.Path(__file__).parent / "cases"
+    here = pathlib.Path(__file__).parent
     passed = failed = 0
     results = [
-        (name, guarded(run_file_case, program, *case)) for name, *case in file_cases(folder)
+        (name, guarded(run_file_case, program, *case))
+        for folder in (here / "cases", here / "found")
+        if folder.exists()
+        for name, *case in file_cases(folder)
     ]
     results += [(name, guarded(run, program)) for name, run in scripted.cases()]
     for name, wrong in results:
