@@ -6,6 +6,7 @@ import pathlib
 import pty
 import select
 import subprocess
+import sys
 import tempfile
 import threading
 import tty
@@ -671,3 +672,57 @@ def the_demo_tells_that_no_such_stream_is_there(program):
     ended = demo(program, "/no/such/stream")
     told = "/no/such/stream: No such file or directory\n"
     return None if (ended.returncode, ended.stderr) == (1, told) else f"status {ended.returncode}, {ended.stderr!r}"
+
+
+# ---- captures
+
+
+def tool(name, *words):
+    return subprocess.run([TOP / "tools" / name, *words], capture_output=True, timeout=SECONDS, check=True).stdout
+
+
+def captured_stream():
+    """What tools/from_pcap makes of three datagrams to one address: a list, an opening, and they themselves."""
+    rest = bytes.fromhex("00 00 01 00000000 00000028")
+    made = listing(local(9)) + opening(rest=rest)
+    for at, tail in enumerate((b"", bytes.fromhex("80030004 00000000"), bytes(1000))):
+        arrival = 10**18 + at
+        moments = arrival.to_bytes(8, "big") + (arrival + 1000).to_bytes(8, "big")
+        made += record(4, ENDS + b"\1\x40" + moments + PLAIN_REQUEST + tail)
+    return made
+
+
+@case
+def a_capture_of_a_replay_gives_its_stream_again(program):
+    stream = captured_stream()
+    answers, status = replay(program, stream)
+    if status:
+        return f"status {status}"
+    with tempfile.TemporaryDirectory() as folder:
+        files = [pathlib.Path(folder, name) for name in ("stream", "answers", "capture")]
+        for file, octets_given in zip(files, (stream, answers)):
+            file.write_bytes(octets_given)
+        files[2].write_bytes(tool("to_pcap", files[0], files[1]))
+        return differs("the stream of the capture", tool("from_pcap", files[2]), stream)
+
+
+@case
+def a_capture_of_ethernet_frames_and_one_of_pcapng_are_read(program):
+    sys.path.insert(0, str(TOP / "tools"))
+    import captures
+
+    sent = captures.Datagram(10**18, captures.Endpoint(b"\xc0\0\2\1", 5000), captures.Endpoint(b"\xc0\0\2\11", 862), 64, PLAIN_REQUEST)
+    frame = bytes(12) + b"\x81\0\0\5\x08\0" + captures.packet_of(sent)
+    head = (0xA1B2C3D4).to_bytes(4, "big") + bytes.fromhex("0002 0004 00000000 00000000 00040000 00000001")
+    lengths = 2 * len(frame).to_bytes(4, "big")
+    pcap = head + (10**9).to_bytes(4, "big") + bytes(4) + lengths + frame
+    block = lambda kind, body: kind + (len(body) + 12).to_bytes(4, "big") + body + (len(body) + 12).to_bytes(4, "big")
+    padded = frame + bytes(-len(frame) % 4)
+    section = block(bytes.fromhex("0A0D0D0A"), bytes.fromhex("1A2B3C4D 0001 0000") + b"\xff" * 8)
+    interface = block(bytes.fromhex("00000001"), bytes.fromhex("0001 0000 00040000 0009 0001 09000000"))
+    packet = block(bytes.fromhex("00000006"), bytes(4) + (10**18).to_bytes(8, "big") + lengths + padded)
+    for name, capture in (("pcap", pcap), ("pcapng", section + interface + packet)):
+        found = list(captures.read(capture))
+        if found != [sent]:
+            return f"{name}: {found}"
+    return None
