@@ -1,3 +1,4 @@
 pub mod Modes
+pub mod Codes
 pub mod Layout
 pub mod Reads

@@ -4,22 +4,16 @@ ghost use Rattle.std.specs.Prelude.{◌≡◌, Ok};
 ghost use Rattle.control_msgs.specs.Layout.{address_field, ip_version, request_message, set_up, start_sessions, stop_sessions};
 ghost use Rattle.control_msgs.specs.Reads.{IsWritable, request_read};
 
+use crate::codes::{COMMAND_LEN, REQUEST, REQUEST_LEN, SET_UP_LEN, START, STOP};
 use crate::request::{
-    IPVN, OCTETS, RECEIVER_ADDRESS, RECEIVER_PORT, REFLECT, REQUEST, SENDER_ADDRESS, SENDER_PORT,
-    TIMEOUT,
+    IPVN, OCTETS, RECEIVER_ADDRESS, RECEIVER_PORT, REFLECT, SENDER_ADDRESS, SENDER_PORT, TIMEOUT,
 };
 use crate::types::Request;
 use octet_format::put;
 use refl_types::Address;
 
-/// The command number of a Start-Sessions.
-const START: u8 = 2;
-
-/// The command number of a Stop-Sessions.
-const STOP: u8 = 3;
-
 /// Writes the Set-Up-Response (RFC 4656, section 3.1).
-pub fn write_set_up(mode: u32, out: &mut [u8; 164])
+pub fn write_set_up(mode: u32, out: &mut [u8; SET_UP_LEN])
     ensures { out.new ≡ set_up mode }
 {
     put(out, 0, &mode.to_be_bytes());
@@ -29,7 +23,7 @@ pub fn write_set_up(mode: u32, out: &mut [u8; 164])
 }
 
 /// Writes the Start-Sessions (RFC 5357, section 3.7).
-pub fn write_start(out: &mut [u8; 32])
+pub fn write_start(out: &mut [u8; COMMAND_LEN])
     ensures { out.new ≡ start_sessions }
 {
     put(out, 0, &[START]);
@@ -38,7 +32,7 @@ pub fn write_start(out: &mut [u8; 32])
 }
 
 /// Writes the Stop-Sessions (RFC 5357, section 3.8).
-pub fn write_stop(number: u32, out: &mut [u8; 32])
+pub fn write_stop(number: u32, out: &mut [u8; COMMAND_LEN])
     ensures { out.new ≡ stop_sessions number }
 {
     put(out, 0, &[STOP]);
@@ -71,7 +65,7 @@ fn ip_version(v6: bool) -> u8
 
 /// Writes the Request-TW-Session (RFC 5357, section 3.5; RFC 6038, section 3.2). All fields that `request` doesn't
 /// have are zeros. A server reads the same request again.
-pub fn write_request(request: &Request, out: &mut [u8; 112])
+pub fn write_request(request: &Request, out: &mut [u8; REQUEST_LEN])
     requires { IsWritable request.now }
     ensures fields { out.new ≡ request_message request.now }
     ensures read_again { request_read out.new ≡ Ok request.now }

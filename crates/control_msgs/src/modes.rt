@@ -16,9 +16,7 @@ pub(crate) const MODES: u32 = OPEN + REFLECT_OCTETS + SYMMETRICAL_SIZE;
 pub fn is_open_mode(mode: u32) -> bool
     ensures { result ≡ is_open_mode mode }
 {
-    let reflecting = mode / REFLECT_OCTETS % 2 * REFLECT_OCTETS;
-    let symmetrical = mode / SYMMETRICAL_SIZE % 2 * SYMMETRICAL_SIZE;
-    mode == OPEN + reflecting + symmetrical
+    mode % 2 == OPEN && mode & !MODES == 0
 }
 
 /// Whether a mode has octets of the request and of its padding given back.

@@ -5,12 +5,10 @@ ghost use Rattle.std.specs.Int.{w16, w32, from_be_bytes};
 ghost use Rattle.octet_format.specs.Octets.{field};
 ghost use Rattle.control_msgs.specs.Reads.{are_zeros, address_read, fault_at, first_fault, request_of, request_read};
 
+use crate::codes::{REQUEST, REQUEST_LEN};
 use crate::types::{Field, MsgFault, Request};
 use octet_format::{field2, field4, field8, field16};
 use refl_types::Address;
-
-/// The command number of a session request.
-pub(crate) const REQUEST: u8 = 5;
 
 /// The places of the fields that are read or written, besides the command at 0.
 pub(crate) const IPVN: usize = 1;
@@ -88,7 +86,7 @@ fn refuse(at: usize, field: Field) -> Option<MsgFault>
 
 /// The first field that is refused, in the order of `Field`.
 #[tactic(auto, unfolding(crate::specs::Reads::first_fault))]
-fn first_fault(octets: &[u8; 112]) -> Option<MsgFault>
+fn first_fault(octets: &[u8; REQUEST_LEN]) -> Option<MsgFault>
     ensures { result ≡ first_fault octets.now }
 {
     if octets[0] != REQUEST {
@@ -115,7 +113,7 @@ fn first_fault(octets: &[u8; 112]) -> Option<MsgFault>
 
 /// What a message asks for. The fields that are tested may have any values.
 #[tactic(auto, unfolding(crate::specs::Reads::request_of))]
-fn request_of(octets: &[u8; 112]) -> Request
+fn request_of(octets: &[u8; REQUEST_LEN]) -> Request
     ensures { result ≡ request_of octets.now }
 {
     let v6 = octets[IPVN] % 16 == 6;
@@ -135,7 +133,7 @@ fn request_of(octets: &[u8; 112]) -> Request
 /// 6, both Conf fields 0, no schedule slots, Type-P 0, the sender's port other than 0. The first that fails is
 /// answered, and the place of its first octet. An address of zeros is none.
 #[tactic(auto, unfolding(crate::specs::Reads::request_read))]
-pub fn read_request(octets: &[u8; 112]) -> Result<Request, MsgFault>
+pub fn read_request(octets: &[u8; REQUEST_LEN]) -> Result<Request, MsgFault>
     ensures { result ≡ request_read octets.now }
 {
     match first_fault(octets) {
@@ -145,7 +143,7 @@ pub fn read_request(octets: &[u8; 112]) -> Result<Request, MsgFault>
 }
 
 /// The octets that a request wants to have back, in its field Octets to be reflected (RFC 6038, section 3.2).
-pub fn octets_to_reflect(octets: &[u8; 112]) -> [u8; 2]
+pub fn octets_to_reflect(octets: &[u8; REQUEST_LEN]) -> [u8; 2]
     ensures { result ≡ field 88 2 octets.now }
 {
     field2(octets, OCTETS)

@@ -10,7 +10,13 @@ use std::alloc::AllocError;
 use std::marker::Model;
 
 /// Octets of a block of SHA-256, and so of a key's block form.
-const BLOCK_LEN: usize = 64;
+pub const BLOCK_LEN: usize = 64;
+
+/// Octets of a digest of SHA-256.
+const DIGEST_LEN: usize = 32;
+
+/// Octets of an HMAC that is cut to 128 bits.
+pub const MAC_LEN: usize = 16;
 
 /// What the inner key is exclusive-ored with (RFC 2104, section 2).
 const INNER_PAD: u8 = 0x36;
@@ -19,7 +25,7 @@ const INNER_PAD: u8 = 0x36;
 const OUTER_PAD: u8 = 0x5C;
 
 /// The block form of a key: a key of more than 64 octets is replaced by its digest, and what lacks is zeros.
-pub fn block_key(key: &[u8]) -> [u8; 64]
+pub fn block_key(key: &[u8]) -> [u8; BLOCK_LEN]
     ensures { result ≡ block_of key.now }
 {
     if key.len() > BLOCK_LEN {
@@ -29,7 +35,7 @@ pub fn block_key(key: &[u8]) -> [u8; 64]
     }
 }
 
-fn filled(key: &[u8]) -> [u8; 64]
+fn filled(key: &[u8]) -> [u8; BLOCK_LEN]
     requires { length key.now ≤ 64 }
     ensures { result ≡ filled key.now }
 {
@@ -38,7 +44,7 @@ fn filled(key: &[u8]) -> [u8; 64]
     block
 }
 
-fn padded(block: &[u8; 64], octet: u8) -> [u8; 64]
+fn padded(block: &[u8; BLOCK_LEN], octet: u8) -> [u8; BLOCK_LEN]
     ensures { result ≡ pad octet block.now }
 {
     let mut out = *block;
@@ -48,11 +54,11 @@ fn padded(block: &[u8; 64], octet: u8) -> [u8; 64]
     out
 }
 
-fn first_half(digest: &[u8; 32]) -> [u8; 16]
+fn first_half(digest: &[u8; DIGEST_LEN]) -> [u8; MAC_LEN]
     ensures { result ≡ take 16 digest.now }
 {
-    let mut half = [0; 16];
-    half.copy_from_slice(&digest[..16]);
+    let mut half = [0; MAC_LEN];
+    half.copy_from_slice(&digest[..MAC_LEN]);
     half
 }
 
@@ -60,7 +66,7 @@ fn first_half(digest: &[u8; 32]) -> [u8; 16]
 /// section 4). Contracts see it as the key's block form.
 #[derive(Drop)]
 pub struct KeyedHash {
-    block: [u8; 64],
+    block: [u8; BLOCK_LEN],
     inner: Sha256,
     outer: Sha256,
 }
@@ -82,7 +88,7 @@ impl KeyedHash {
     ghost use Rattle.hmac_sha256.specs.Hmac.{mac128_of};
 
     /// Hashes the padded blocks of a key in its block form.
-    pub fn of(block: &[u8; 64]) -> KeyedHash
+    pub fn of(block: &[u8; BLOCK_LEN]) -> KeyedHash
         ensures { result ≡ block.now }
     {
         KeyedHash {
@@ -94,7 +100,7 @@ impl KeyedHash {
 
     /// The first 16 octets of the HMAC under this key of `first` followed by `second`.
     #[tactic(auto, unfolding(crate::specs::Hmac::mac128_of, crate::specs::Hmac::hmac))]
-    pub fn mac128(&self, first: &[u8], second: &[u8]) -> [u8; 16]
+    pub fn mac128(&self, first: &[u8], second: &[u8]) -> [u8; MAC_LEN]
         ensures { result ≡ mac128_of self.now (first.now ++ second.now) }
     {
         let mut inner = copied(&self.inner);
@@ -118,7 +124,7 @@ fn copied(hasher: &Sha256) -> Sha256
 }
 
 /// The first 16 octets of the HMAC, under a key in its block form, of `first` followed by `second`.
-pub fn mac128(block: &[u8; 64], first: &[u8], second: &[u8]) -> [u8; 16]
+pub fn mac128(block: &[u8; BLOCK_LEN], first: &[u8], second: &[u8]) -> [u8; MAC_LEN]
     ensures { result ≡ mac128_of block.now (first.now ++ second.now) }
 {
     KeyedHash::of(block).mac128(first, second)
@@ -129,7 +135,7 @@ mod tests {
     use super::*;
     use std::process::Abort;
 
-    fn check(rt: &impl Abort, key: &[u8], text: &[u8], want: [u8; 16]) {
+    fn check(rt: &impl Abort, key: &[u8], text: &[u8], want: [u8; MAC_LEN]) {
         assert_eq!(rt; mac128(&block_key(key), text, b""), want);
         assert_eq!(rt; mac128(&block_key(key), b"", text), want);
     }

@@ -20,6 +20,10 @@ pub data DeskEntry : Type 0 where
   hung_up : ℕ → DeskEntry
   finished : DeskEntry
 
+-- how many octets come with an event at the most
+abbrev pub piece_limit : ℕ
+piece_limit = 4096
+
 -- how many octets come with an event
 abbrev pub octet_count : DeskEvent → ℕ
 octet_count (Opened conn kind peer local) = 0

@@ -10,7 +10,7 @@ use Rattle.net_io.specs.declared.script_desk.DeskDeed.TheVariants as deed
 use Rattle.port_io.specs.Outside.{counted}
 use Rattle.port_io.specs.Memory.{PlannedFailures, one_call_on}
 use Rattle.net_io.specs.Log.{LogState, noted}
-use Rattle.net_io.specs.Desk.{DeskEntry, opened, open_failed, gave, next_failed, sent, send_failed, hung_up, finished, octet_count}
+use Rattle.net_io.specs.Desk.{DeskEntry, opened, open_failed, gave, next_failed, sent, send_failed, hung_up, finished, octet_count, piece_limit}
 
 -- the event of an item, with its moment
 abbrev pub timed : DeskItem → Timed
@@ -22,7 +22,7 @@ item_entry i = gave (timed i) i.octets.items
 
 -- an event comes with as many octets as it says, and with at most 4,096
 abbrev pub IsWhole : DeskItem → Type 0
-IsWhole i = (octet_count i.event ≡ length i.octets.items) × (length i.octets.items ≤ 4096)
+IsWhole i = (octet_count i.event ≡ length i.octets.items) × (length i.octets.items ≤ piece_limit)
 
 -- an entry of a log, of what was done and its octets
 abbrev pub desk_entry : DeskDeed × List ℕ → DeskEntry

@@ -1,5 +1,6 @@
 -- What a scripted port holds, and what each call leaves.
 use Rattle.std.specs.Prelude.{◌≡◌, ℕ, ◌≤◌, List, [], ◌∷◌, ◌++◌, length, drop, map, All, take, Option, option_map, Result, Ok, Err}
+use Rattle.refl_types.specs.Limits.{datagram_limit}
 use Rattle.refl_types.specs.declared.types.Endpoint.{Endpoint}
 use Rattle.refl_types.specs.declared.types.Meta.{Meta}
 use Rattle.port_io.specs.declared.outside.Failed.{Failed}
@@ -22,7 +23,7 @@ item_entry item.End = ended
 
 -- a datagram has as many octets as it says, and no more than fit a UDP datagram over IPv4
 abbrev pub IsWhole : PortItem → Type 0
-IsWhole (item.Datagram meta octets) = (meta.len ≡ length octets.items) × (length octets.items ≤ 65507)
+IsWhole (item.Datagram meta octets) = (meta.len ≡ length octets.items) × (length octets.items ≤ datagram_limit)
 IsWhole item.Nothing = Unit {0}
 IsWhole item.End = Unit {0}
 

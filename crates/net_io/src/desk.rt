@@ -3,7 +3,7 @@
 ghost use Rattle.std.specs.Prelude.{◌≡◌, ℕ, Bool, List, [], ◌∷◌, ◌≤◌, length, Option, IsTrue, IfOk, OnOk, OnErr};
 ghost use Rattle.port_io.specs.Outside.{Rises};
 ghost use Rattle.net_io.specs.Log.{Grows};
-ghost use Rattle.net_io.specs.Desk.{DeskEntry, Gives, next_entry, send_entry, open_entry, hung_up, finished, octet_count};
+ghost use Rattle.net_io.specs.Desk.{DeskEntry, Gives, next_entry, send_entry, open_entry, hung_up, finished, octet_count, piece_limit};
 
 use port_io::Failed;
 use refl_types::{Address, LocalAddr};
@@ -85,8 +85,8 @@ pub trait Desk {
     /// Waits for the next event. The octets that come with it stand at the front of the buffer. A call that fails takes none.
     fn next(&mut self, buf: &mut [u8]) -> Result<Timed, Failed>
         requires open { IsTrue (is_open self.old) }
-        requires room { PIECE_ROOM ≤ length buf.old }
-        ensures len { IfOk result (λ t. octet_count t.event ≤ 4096) }
+        requires room { piece_limit ≤ length buf.old }
+        ensures len { IfOk result (λ t. octet_count t.event ≤ piece_limit) }
         ensures open { is_open self.new ≡ is_open self.old }
         ensures coming { Gives (coming self.old) (coming self.new) buf.new result }
         ensures log { Grows (log self.old) (log self.new) (next_entry buf.new result ∷ []) }

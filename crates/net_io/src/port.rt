@@ -2,6 +2,7 @@
 
 ghost use Rattle.std.specs.Prelude.{◌≡◌, ℕ, List, [], ◌∷◌, ◌≤◌, ◌<◌, length, Option, IfOk, OnOk, OnErr};
 ghost use Rattle.refl_types.specs.declared.types.Endpoint.{Endpoint};
+ghost use Rattle.refl_types.specs.Limits.{datagram_limit};
 ghost use Rattle.port_io.specs.Outside.{Rises};
 ghost use Rattle.net_io.specs.Log.{Grows};
 ghost use Rattle.net_io.specs.Port.{PortEntry, Receives, recv_entry, send_entry, read, done, datagram_len};
@@ -67,7 +68,7 @@ pub trait Port {
     fn recv(&mut self, buf: &mut [u8]) -> Result<Got, Failed>
         requires bound { 0 < length (bound self.old) }
         requires room { length buf.old ≡ DATAGRAM_ROOM }
-        ensures len { IfOk result (λ got. datagram_len got ≤ 65507) }
+        ensures len { IfOk result (λ got. datagram_len got ≤ datagram_limit) }
         ensures bound { bound self.new ≡ bound self.old }
         ensures coming { Receives (coming self.old) (coming self.new) buf.new result }
         ensures log { Grows (log self.old) (log self.new) (recv_entry buf.new result ∷ []) }

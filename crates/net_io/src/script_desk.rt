@@ -2,7 +2,7 @@
 
 ghost use Rattle.std.specs.Prelude.{◌≡◌, ◌≤◌, [], map, take, drop, length, All};
 ghost use Rattle.net_io.specs.Log.{first_or};
-ghost use Rattle.net_io.specs.Desk.{gave, octet_count};
+ghost use Rattle.net_io.specs.Desk.{gave, octet_count, piece_limit};
 ghost use Rattle.net_io.specs.ScriptDesk.{IsWhole, item_entry, end_at};
 
 use crate::desk::{Desk, DeskEvent, Timed};
@@ -132,7 +132,7 @@ impl Desk for ScriptDesk {
     ghost use Rattle.port_io.specs.Outside.{Rises};
     ghost use Rattle.port_io.specs.Memory.{next_fails};
     ghost use Rattle.net_io.specs.Log.{Grows};
-    ghost use Rattle.net_io.specs.Desk.{Gives, next_entry, send_entry, open_entry, hung_up, finished, octet_count};
+    ghost use Rattle.net_io.specs.Desk.{Gives, next_entry, send_entry, open_entry, hung_up, finished, octet_count, piece_limit};
     ghost use Rattle.net_io.specs.declared.script_desk.DeskDeed.TheVariants.{HungUp, Finished};
     ghost use Rattle.net_io.specs.ScriptDesk.{ScriptDeskState, told_log, after_open, after_next, after_send, after_deed};
 
@@ -174,8 +174,8 @@ impl Desk for ScriptDesk {
 
     fn next(&mut self, buf: &mut [u8]) -> Result<Timed, Failed>
         requires open { IsTrue self.old.is_open }
-        requires room { 4096 ≤ length buf.old }
-        ensures len { IfOk result (λ t. octet_count t.event ≤ 4096) }
+        requires room { piece_limit ≤ length buf.old }
+        ensures len { IfOk result (λ t. octet_count t.event ≤ piece_limit) }
         ensures open { self.new.is_open ≡ self.old.is_open }
         ensures coming { Gives (Some self.old.coming) (Some self.new.coming) buf.new result }
         ensures log { Grows (told_log self.old) (told_log self.new) (next_entry buf.new result ∷ []) }
@@ -236,9 +236,9 @@ impl Desk for ScriptDesk {
 /// it is the end, at the last moment.
 fn item_at(items: &[DeskItem], at: usize, last: u64, buf: &mut [u8]) -> (Timed, usize)
     requires whole { All IsWhole items.now }
-    requires room { 4096 ≤ length buf.old }
+    requires room { piece_limit ≤ length buf.old }
     ensures len { result.1 ≡ octet_count result.0.event }
-    ensures few { result.1 ≤ 4096 }
+    ensures few { result.1 ≤ piece_limit }
     ensures item { gave result.0 (take (octet_count result.0.event) buf.new) ≡ first_or (gave (end_at last) []) (map item_entry (drop at items.now)) }
 {
     match items.get(at) {

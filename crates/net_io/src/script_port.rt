@@ -1,6 +1,7 @@
 //! A port in memory that follows a script.
 
 ghost use Rattle.std.specs.Prelude.{◌≡◌, ◌≤◌, map, drop, length, All, vec_capacity};
+ghost use Rattle.refl_types.specs.Limits.{datagram_limit};
 ghost use Rattle.net_io.specs.Log.{first_or, noted};
 ghost use Rattle.net_io.specs.Port.{datagram_len, got_entry, ended};
 ghost use Rattle.net_io.specs.ScriptPort.{IsWhole, item_entry, got_deed, got_octets};
@@ -143,6 +144,7 @@ impl ScriptPort {
 
 impl Port for ScriptPort {
     ghost use Rattle.std.specs.Prelude.{◌≡◌, ◌<◌, ◌≤◌, ◌↔◌, [], ◌∷◌, length, Some, IsTrue, IsErr, IfOk, OnOk, OnErr};
+    ghost use Rattle.refl_types.specs.Limits.{datagram_limit};
     ghost use Rattle.port_io.specs.Outside.{Rises};
     ghost use Rattle.port_io.specs.Memory.{next_fails};
     ghost use Rattle.net_io.specs.Log.{Grows};
@@ -202,7 +204,7 @@ impl Port for ScriptPort {
     fn recv(&mut self, buf: &mut [u8]) -> Result<Got, Failed>
         requires bound { 0 < length self.old.bound }
         requires room { length buf.old ≡ 65536 }
-        ensures len { IfOk result (λ got. datagram_len got ≤ 65507) }
+        ensures len { IfOk result (λ got. datagram_len got ≤ datagram_limit) }
         ensures bound { self.new.bound ≡ self.old.bound }
         ensures coming { Receives (Some self.old.coming) (Some self.new.coming) buf.new result }
         ensures log { Grows (told_log self.old) (told_log self.new) (recv_entry buf.new result ∷ []) }
@@ -283,7 +285,7 @@ fn rebind(bound: &mut Vec<LocalAddr>, locals: &[LocalAddr])
 fn item_at(items: &[PortItem], at: usize, buf: &mut [u8]) -> Got
     requires whole { All IsWhole items.now }
     requires room { length buf.old ≡ 65536 }
-    ensures len { datagram_len result ≤ 65507 }
+    ensures len { datagram_len result ≤ datagram_limit }
     ensures item { got_entry buf.new result ≡ first_or ended (map item_entry (drop at items.now)) }
 {
     match items.get(at) {

@@ -13,7 +13,7 @@ use Rattle.stamp_packet.specs.declared.fields.ReplyBase.{ReplyBase}
 abbrev pub error_estimate : ConfigParts → List ℕ
 error_estimate c = (flag c.synced * 0x80 + flag (is_ptp c.clock) * 0x40 + c.scale) ∷ c.multiplier ∷ []
 
--- A stateful reflector counts for itself, a stateless one copies (RFC 8762, section 4.2). A TTL that wasn't told is 255.
+-- A stateful reflector counts for itself, a stateless one copies (RFC 8762, section 4). A TTL that wasn't told is 255.
 unfoldable pub reply_base : ConfigParts → Draw → Meta → SenderBase → ReplyBase
 reply_base c draw m s = record {
   sequence = if c.stateful then draw.number else s.sequence;

@@ -26,7 +26,7 @@ fn error_estimate(parts: &ConfigParts) -> [u8; 2]
     [synced + format + parts.scale, parts.multiplier]
 }
 
-/// The Sequence Number of a reply: the reflector's own where it is stateful (RFC 8762, section 4.2).
+/// The Sequence Number of a reply: the reflector's own where it is stateful (RFC 8762, section 4).
 #[inline]
 fn sequence_of(parts: &ConfigParts, number: u32, sender: &SenderBase) -> u32
     ensures { result ≡ (if parts.now.stateful then number else sender.now.sequence) }

@@ -8,17 +8,10 @@ use crate::session::Session;
 use crate::tails::has_intact_tail;
 use keyed_config::KeyedConfig;
 use refl_types::{Config, Extra, Key, Mode, Silent};
-use stamp_auth::{AuthFault, read_auth_keyed};
+use stamp_auth::{AUTH_LEN, AuthFault, read_auth_keyed};
+use stamp_packet::PLAIN_LEN;
 use tlv_actions::no_reply;
-
-/// Octets of an unauthenticated base packet.
-const PLAIN_LEN: usize = 44;
-
-/// Octets of an authenticated base packet.
-const AUTH_LEN: usize = 112;
-
-/// Octets of a TWAMP-Test packet before its padding.
-const TEST_LEN: usize = 14;
+use twamp_test::TEST_LEN;
 
 /// An extra that doesn't matter where a datagram is judged.
 const NO_EXTRA: Extra = Extra {

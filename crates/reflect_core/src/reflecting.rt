@@ -2,13 +2,15 @@
 
 ghost use Rattle.std.specs.Prelude.{◌≡◌, ◌≤◌, ◌||◌, false, IsSome, List, length};
 ghost use Rattle.refl_types.specs.HmacKey.{HasHmacKey};
+ghost use Rattle.refl_types.specs.Limits.{datagram_limit};
 ghost use Rattle.refl_types.specs.declared.types.Mode.TheVariants.{Plain, Auth, Twamp};
 ghost use Rattle.reflect_core.specs.declared.judging.Judged.TheVariants.{Reflect};
 ghost use Rattle.reflect_core.specs.Judgement.{judgement};
 ghost use Rattle.reflect_core.specs.Arrived.{arrived};
 ghost use Rattle.reflect_core.specs.Ends.{has_intact_tail, plan_after};
 ghost use Rattle.reflect_core.specs.Reflection.{WritesPlain, WritesAuth, WritesTest, reflection, IsReply};
-ghost use Rattle.tlv_actions.specs.Rows.{destination_node_address, return_path, is_understood};
+ghost use Rattle.tlv_chain.specs.Tlv.{destination_node_address, return_path};
+ghost use Rattle.tlv_actions.specs.Rows.{is_understood};
 ghost use Rattle.refl_types.specs.declared.types.Endpoint.{Endpoint};
 
 use crate::base::reply_base;
@@ -17,16 +19,10 @@ use crate::session::{Datagram, Draw, Session};
 use crate::tails::write_tail_after;
 use keyed_config::KeyedConfig;
 use refl_types::{Address, Config, Endpoint, Extra, Key, LocalAddr, Meta, Mode};
-use stamp_auth::{auth_sender, write_auth_keyed};
-use stamp_packet::{read_plain, write_plain_to};
+use stamp_auth::{AUTH_LEN, auth_sender, write_auth_keyed};
+use stamp_packet::{PLAIN_LEN, read_plain, write_plain_to};
 use tlv_actions::{Plan, may_redirect, plan};
 use twamp_test::{read_test, write_test_to};
-
-/// Octets of an unauthenticated base packet (RFC 8762, section 4.2.1).
-const PLAIN_LEN: usize = 44;
-
-/// Octets of an authenticated base packet (RFC 8762, section 4.2.2).
-const AUTH_LEN: usize = 112;
 
 /// Where a reply is sent, and how many octets of the buffer it has.
 #[derive(Clone, Copy, Debug, PartialEq, Eq)]
@@ -150,9 +146,9 @@ fn reflect_test(
     out: &mut [u8],
 ) -> usize
     requires judged { 14 ≤ length datagram.now.octets.now }
-    requires limit { length datagram.now.octets.now ≤ 65507 }
+    requires limit { length datagram.now.octets.now ≤ datagram_limit }
     requires room { 65536 ≤ length out.old }
-    ensures limit { result ≤ 65507 }
+    ensures limit { result ≤ datagram_limit }
     ensures octets { WritesTest extra.now config.now draw.now (arrived datagram.now) result out.old out.new }
 {
     let sender = read_test(datagram.octets).unwrap();
@@ -174,10 +170,10 @@ impl Session<'_> {
     fn reflect_usual(&self, datagram: &Datagram, draw: &Draw, out: &mut [u8]) -> Reply
         requires usual { (is_understood self.now.config.now destination_node_address || is_understood self.now.config.now return_path) ≡ false }
         requires judged { judgement self.now.key.now.mode self.now.config.now datagram.now.octets.now ≡ Reflect }
-        requires limit { length datagram.now.octets.now ≤ 65507 }
+        requires limit { length datagram.now.octets.now ≤ datagram_limit }
         requires room { 65536 ≤ length out.old }
         ensures reply { IsReply (reflection self.now.key.now self.now.extra.now self.now.config.now draw.now (arrived datagram.now)) result out.old out.new }
-        ensures limit { result.len ≤ 65507 }
+        ensures limit { result.len ≤ datagram_limit }
         ensures size { (self.now.key.now.mode ≡ Twamp → ⊥) → result.len ≡ length datagram.now.octets.now }
     {
         let config = self.config;
@@ -210,11 +206,11 @@ impl Session<'_> {
         out: &mut [u8],
     ) -> Reply
         requires judged { judgement self.now.key.now.mode self.now.config.now octets.now ≡ Reflect }
-        requires limit { length octets.now ≤ 65507 }
+        requires limit { length octets.now ≤ datagram_limit }
         requires locals { length locals.now ≤ 16 }
         requires room { 65536 ≤ length out.old }
         ensures reply { IsReply (reflection self.now.key.now self.now.extra.now self.now.config.now draw (record { meta = meta; octets = octets.now; locals = locals.now })) result out.old out.new }
-        ensures limit { result.len ≤ 65507 }
+        ensures limit { result.len ≤ datagram_limit }
         ensures size { (self.now.key.now.mode ≡ Twamp → ⊥) → result.len ≡ length octets.now }
     {
         let config = self.config;
@@ -245,11 +241,11 @@ impl Session<'_> {
     #[inline(always)]
     pub fn reflect(&self, datagram: &Datagram, draw: &Draw, out: &mut [u8]) -> Reply
         requires judged { judgement self.now.key.now.mode self.now.config.now datagram.now.octets.now ≡ Reflect }
-        requires limit { length datagram.now.octets.now ≤ 65507 }
+        requires limit { length datagram.now.octets.now ≤ datagram_limit }
         requires locals { length datagram.now.locals.now ≤ 16 }
         requires room { 65536 ≤ length out.old }
         ensures reply { IsReply (reflection self.now.key.now self.now.extra.now self.now.config.now draw.now (arrived datagram.now)) result out.old out.new }
-        ensures limit { result.len ≤ 65507 }
+        ensures limit { result.len ≤ datagram_limit }
         ensures size { (self.now.key.now.mode ≡ Twamp → ⊥) → result.len ≡ length datagram.now.octets.now }
     {
         if self.may_redirect() {
@@ -279,11 +275,11 @@ pub fn reflect(
 ) -> Reply
     requires key { HasHmacKey key.now.mode config.now }
     requires judged { judgement key.now.mode config.now input.now ≡ Reflect }
-    requires limit { length input.now ≤ 65507 }
+    requires limit { length input.now ≤ datagram_limit }
     requires locals { length locals.now ≤ 16 }
     requires room { 65536 ≤ length out.old }
     ensures reply { IsReply (reflection key.now extra.now config.now (record { number = n; sending = t3 }) (record { meta = meta.now; octets = input.now; locals = locals.now })) result out.old out.new }
-    ensures limit { result.len ≤ 65507 }
+    ensures limit { result.len ≤ datagram_limit }
     ensures size { (key.now.mode ≡ Twamp → ⊥) → result.len ≡ length input.now }
 {
     let config = KeyedConfig::of(config);

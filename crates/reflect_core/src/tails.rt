@@ -10,20 +10,8 @@ use keyed_config::KeyedConfig;
 use octet_format::{field4, put};
 use refl_types::Mode;
 use tlv_actions::{Acted, Plan, ReplyFacts, act, copy_tlv, is_understood};
-use tlv_chain::Walk;
+use tlv_chain::{HEADER_LEN, INTEGRITY_FAILED, MALFORMED, UNRECOGNIZED, Walk};
 use tlv_integrity::{Integrity, check_keyed, seal_keyed};
-
-/// The U flag (RFC 8972, section 4).
-const UNRECOGNIZED: u8 = 0x80;
-
-/// The M flag.
-const MALFORMED: u8 = 0x40;
-
-/// The I flag.
-const INTEGRITY_FAILED: u8 = 0x20;
-
-/// Octets of the header of a TLV.
-const HEADER_LEN: usize = 4;
 
 /// The octet at a place, or 0 past the end.
 #[inline]

@@ -14,7 +14,7 @@ use Rattle.refl_types.specs.Keys.{is_sound, is_sound_in, has_no_extra}
 use Rattle.refl_types.specs.Spelling.{endpoint_octets, key_octets, extra_octets, config_octets, FitsEndpoint, FitsKey, FitsSession, FitsConfig}
 use Rattle.replay_format.proofs.ListFormat.{locals_body, length-locals, locals_obeys}
 use Rattle.replay_format.specs.Records.{Item, Opens, Sets, Closes, Arrives, Lists, Opening, Setting, Datagram, ttl_octets, opening_octets, setting_octets, datagram_octets, spelling, no_extra, FitsTtl, FitsDatagram, FitsOpening, FitsSetting, FitsLocals, Fits}
-use Rattle.replay_format.specs.Reading.{body_len_at, ttl_at, datagram_at, opening_at, setting_at, closing_at, locals_at, body_at, item_at}
+use Rattle.replay_format.specs.InnerReading.{body_len_at, ttl_at, datagram_at, opening_at, setting_at, closing_at, locals_at, body_at, item_at}
 use Rattle.refl_types.proofs.SameFacts.{both_true}
 use Rattle.session_octets.specs.Sound.{FitsInMode, HasNoExtra, FitsExtra}
 use Rattle.session_octets.proofs.Formats.{endpoint_obeys, key_obeys, extra_obeys, config_obeys, endpoint_octets_length, key_octets_length, extra_octets_length, config_octets_length}

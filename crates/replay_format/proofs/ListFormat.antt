@@ -19,7 +19,7 @@ use Rattle.refl_types.proofs.SameFacts.{both_true, endpoint_same}
 use Rattle.session_octets.specs.Reading.{endpoint_at}
 use Rattle.session_octets.proofs.Formats.{endpoint_obeys, endpoint_octets_length}
 use Rattle.replay_format.specs.Records.{locals_octets, FitsLocal, FitsLocals}
-use Rattle.replay_format.specs.Reading.{is_list_len, count_at, is_new, local_at, locals_from, locals_at}
+use Rattle.replay_format.specs.InnerReading.{is_list_len, count_at, is_new, local_at, locals_from, locals_at}
 
 not_true : (b : Bool) → not b ≡ true → b ≡ false
 not_true true e = absurd cc

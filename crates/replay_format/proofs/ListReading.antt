@@ -6,7 +6,7 @@ use Rattle.std.proofs.lemmas.List.{append-nil, drop-drop, drop-set-lt, length-se
 use Rattle.octet_format.specs.declared.reading.Unread.{Unread}
 use Rattle.octet_format.specs.Reading.{◌>>=◌}
 use Rattle.refl_types.specs.declared.types.Endpoint.{Endpoint}
-use Rattle.replay_format.specs.Reading.{count_at, local_at, locals_from, locals_at}
+use Rattle.replay_format.specs.InnerReading.{count_at, local_at, locals_from, locals_at}
 use Rattle.replay_format.specs.View.{no_local, IsPadded}
 
 -- what was read, and then what stands before it

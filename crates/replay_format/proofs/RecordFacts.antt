@@ -4,7 +4,7 @@ use Rattle.std.proofs.lemmas.List.{append-nil, drop_at, length-append}
 use Rattle.octet_format.specs.declared.reading.Unread.TheVariants.{More, Bad}
 use Rattle.octet_format.specs.Octets.{IsBytes}
 use Rattle.replay_format.specs.Records.{Item, Fits, spelling}
-use Rattle.replay_format.specs.Reading.{item_at}
+use Rattle.replay_format.specs.InnerReading.{item_at}
 use Rattle.replay_format.specs.View.{item_of, IsFront, IsBegun, IsForeign, IsParsed, IsRecord}
 use Rattle.replay_format.specs.declared.record.Parsed.{Parsed}
 use Rattle.replay_format.specs.declared.record.Parsed.TheVariants as parsed

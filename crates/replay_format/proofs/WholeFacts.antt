@@ -8,6 +8,7 @@ use Rattle.std.specs.Int.{w16, w32, w64, from_be_bytes, to_be_bytes}
 use Rattle.octet_format.specs.Octets.{IsBytes, field}
 use Rattle.octet_format.proofs.Obeys.{IsBytes-drop, IsBytes-take}
 use Rattle.octet_format.proofs.Fields.{cut, length-field, field_16, field_32}
+use Rattle.refl_types.specs.Limits.{datagram_limit}
 use Rattle.refl_types.specs.declared.types.Address.{Address}
 use Rattle.refl_types.specs.declared.types.Address.TheVariants.{V4, V6}
 use Rattle.refl_types.specs.declared.types.Meta.{Meta}
@@ -113,7 +114,7 @@ ttl_fits : (f : List ℕ) (ttl : Option ℕ) → IsBytes f → f ≡ ttl_octets 
 ttl_fits f None b e = tt
 ttl_fits f (Some n) b e = subst (λ (m : ℕ). m < 256) (ap (λ (l : List ℕ). get_or l 1 0) e) (b 1)
 
-pub whole_front : (octets : List ℕ) (m : Meta) (t3 k : ℕ) → IsBytes octets → 44 + k ≤ length octets → k ≤ 65507 → HasHead octets m k → get_or octets 0 0 ≡ 4
+pub whole_front : (octets : List ℕ) (m : Meta) (t3 k : ℕ) → IsBytes octets → 44 + k ≤ length octets → k ≤ datagram_limit → HasHead octets m k → get_or octets 0 0 ≡ 4
     → from_be_bytes w32 (field 1 4 octets) ≡ 39 + k → t3 ≡ from_be_bytes w64 (field 36 8 octets) → IsFront octets (Arrives (datagram_of m t3 (field 44 k octets))) (44 + k)
 whole_front octets m t3 k bytes enough small head tag body moment =
     let text = field 44 k octets in
@@ -168,7 +169,7 @@ told d = record { local = d.local; peer = d.peer; len = length d.octets; ttl = d
 
 pub record Parts (octets : List ℕ) (d : Datagram) : Type 0 where
   pub long : 44 + length d.octets ≤ length octets
-  pub small : length d.octets ≤ 65507
+  pub small : length d.octets ≤ datagram_limit
   pub tag : get_or octets 0 0 ≡ 4
   pub body : from_be_bytes w32 (field 1 4 octets) ≡ 39 + length d.octets
   pub head : HasHead octets (told d) (length d.octets)

@@ -2,6 +2,7 @@
 use Rattle.std.specs.Prelude.{ℕ, ◌+◌, ◌<◌, ◌≤◌, ◌^◌, List, [], ◌∷◌, ◌++◌, length, Option, Some, None}
 use Rattle.std.specs.Int.{w16, w32, w64, to_be_bytes}
 use Rattle.refl_types.specs.declared.types.Endpoint.{Endpoint}
+use Rattle.refl_types.specs.Limits.{datagram_limit}
 use Rattle.refl_types.specs.Spelling.{endpoint_octets, FitsEndpoint}
 use Rattle.replay_format.specs.declared.code.OpenAnswer.{OpenAnswer}
 use Rattle.replay_format.specs.declared.code.SetAnswer.{SetAnswer}
@@ -59,6 +60,10 @@ answer_len (Sent s) = 31 + length s.octets
 answer_len (Unsent cause) = 6
 answer_len (Left offset) = 13
 
+-- the longest answer has the longest reply
+abbrev pub answer_limit : ℕ
+answer_limit = 31 + datagram_limit
+
 -- what an outcome of the code stands for
 abbrev pub answer_of : Outcome → Answer
 answer_of (outcomes.Opened a) = Opened a
@@ -71,7 +76,7 @@ answer_of (outcomes.Left offset) = Left offset
 
 -- what has a spelling: no reply is longer than a datagram
 abbrev pub FitsAnswer : Answer → Type 0
-FitsAnswer (Sent s) = length s.octets ≤ 65507
+FitsAnswer (Sent s) = length s.octets ≤ datagram_limit
 FitsAnswer (Opened a) = Unit {0}
 FitsAnswer (Set a) = Unit {0}
 FitsAnswer (Closed count) = Unit {0}
@@ -85,7 +90,7 @@ pub record FitsSending (s : Sending) : Type 0 where
   pub from : s.from < 2 ^ 16
   pub to : FitsEndpoint s.to
   pub number : s.number < 2 ^ 32
-  pub len : length s.octets ≤ 65507
+  pub len : length s.octets ≤ datagram_limit
 
 abbrev pub IsInRange : Answer → Type 0
 IsInRange (Opened a) = Unit {0}

@@ -1,5 +1,5 @@
 pub mod Records
-pub mod Reading
+pub mod InnerReading
 pub mod View
 pub mod Codes
 pub mod Answers

@@ -3,6 +3,7 @@ use Rattle.std.specs.Prelude.{ℕ, ◌+◌, ◌*◌, ◌<◌, ◌≤◌, ◌^◌
 use Rattle.std.specs.List.{flat_map, AllByRecursion, IsDistinct}
 use Rattle.std.specs.Int.{w16, w32, w64, to_be_bytes}
 use Rattle.octet_format.specs.Octets.{IsBytes}
+use Rattle.refl_types.specs.Limits.{datagram_limit}
 use Rattle.refl_types.specs.declared.types.Endpoint.{Endpoint}
 use Rattle.refl_types.specs.declared.types.Key.{Key}
 use Rattle.refl_types.specs.declared.types.Extra.{Extra}
@@ -96,7 +97,7 @@ pub record FitsDatagram (d : Datagram) : Type 0 where
   pub arrival : d.arrival < 2 ^ 64
   pub t3 : d.t3 < 2 ^ 64
   pub octets : IsBytes d.octets
-  pub len : length d.octets ≤ 65507
+  pub len : length d.octets ≤ datagram_limit
 
 pub record FitsOpening (o : Opening) : Type 0 where
   pub session : FitsSession o.key o.extra

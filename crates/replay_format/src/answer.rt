@@ -1,6 +1,7 @@
 //! Answers are written in octets.
 
 ghost use Rattle.std.specs.Prelude.{ℕ, List, ◌≡◌, ◌+◌, ◌≤◌, [], ◌∷◌, ◌++◌, length, take, drop};
+ghost use Rattle.refl_types.specs.Limits.{datagram_limit};
 ghost use Rattle.replay_format.specs.Records.{framed};
 ghost use Rattle.replay_format.specs.Answers.{Answer, sent_octets, answer_of, answer_octets, answer_len, FitsAnswer, IsInRange};
 
@@ -43,7 +44,7 @@ pub const REPLY_AT: usize = 31;
 #[inline]
 pub fn frame_reply(from: u16, to: &Endpoint, number: u32, len: usize, out: &mut [u8])
     requires room { 31 + len ≤ length out.old }
-    requires len { len ≤ 65507 }
+    requires len { len ≤ datagram_limit }
     ensures octets { out.new ≡ sent_octets (record { from = from; to = to.now; number = number; octets = take len (drop 31 out.old) }) ++ drop (31 + len) out.old }
     ensures len { (octets : List ℕ) → length (sent_octets (record { from = from; to = to.now; number = number; octets = octets })) ≡ 31 + length octets }
 {
@@ -60,7 +61,7 @@ pub fn frame_reply(from: u16, to: &Endpoint, number: u32, len: usize, out: &mut 
 /// Writes the answer to a datagram that is reflected.
 fn write_sent(from: u16, to: &Endpoint, number: u32, octets: &[u8], out: &mut [u8]) -> usize
     requires room { 31 + length octets.now ≤ length out.old }
-    requires len { length octets.now ≤ 65507 }
+    requires len { length octets.now ≤ datagram_limit }
     ensures octets { out.new ≡ sent_octets (record { from = from; to = to.now; number = number; octets = octets.now }) ++ drop result out.old }
     ensures count { result ≡ 31 + length octets.now }
     ensures len { length (sent_octets (record { from = from; to = to.now; number = number; octets = octets.now })) ≡ 31 + length octets.now }

@@ -1,11 +1,11 @@
 //! The parts of a datagram's record are read from left to right. Each reader gives its part and the octets after it.
 
 ghost use Rattle.octet_format.specs.Reading.{Gives};
-ghost use Rattle.replay_format.specs.Reading.{body_len_at, ttl_at};
+ghost use Rattle.replay_format.specs.InnerReading.{body_len_at, ttl_at};
 
 use octet_format::{Unread, octet_in};
 
-#[tactic(auto, unfolding(crate::specs::Reading::body_len_at))]
+#[tactic(auto, unfolding(crate::specs::InnerReading::body_len_at))]
 pub fn body_len_at(octets: &[u8]) -> Result<(u32, &[u8]), Unread>
     ensures { Gives (λ x. (x.0, x.1.now)) result (body_len_at octets.now) }
 {
@@ -23,7 +23,7 @@ pub fn body_len_at(octets: &[u8]) -> Result<(u32, &[u8]), Unread>
     ))
 }
 
-#[tactic(auto, unfolding(crate::specs::Reading::ttl_at))]
+#[tactic(auto, unfolding(crate::specs::InnerReading::ttl_at))]
 pub fn ttl_at(octets: &[u8]) -> Result<(Option<u8>, &[u8]), Unread>
     ensures { Gives (λ x. (x.0, x.1.now)) result (ttl_at octets.now) }
 {

@@ -3,7 +3,7 @@
 ghost use Rattle.std.specs.Prelude.{◌≡◌, ◌+◌, ◌*◌, ◌<◌, ◌≤◌, length, take, IfOk};
 ghost use Rattle.std.specs.List.{list_any};
 ghost use Rattle.octet_format.specs.Reading.{Gives, octet_at};
-ghost use Rattle.replay_format.specs.Reading.{is_list_len, count_at, is_new, local_at, locals_at};
+ghost use Rattle.replay_format.specs.InnerReading.{is_list_len, count_at, is_new, local_at, locals_at};
 ghost use Rattle.refl_types.specs.Same.{same_endpoint};
 ghost use Rattle.replay_format.specs.View.{IsPadded};
 
@@ -36,7 +36,7 @@ fn len_octet_at(high: u8, octets: &[u8]) -> Result<(u8, &[u8]), Unread>
 }
 
 /// The length of a list's body, and then how many addresses it has.
-#[tactic(auto, unfolding(crate::specs::Reading::count_at))]
+#[tactic(auto, unfolding(crate::specs::InnerReading::count_at))]
 fn count_at(octets: &[u8]) -> Result<(u8, &[u8]), Unread>
     ensures value { Gives (λ x. (x.0, x.1.now)) result (count_at octets.now) }
     ensures limit { IfOk result (λ x. x.0 ≤ 16) }
@@ -68,7 +68,7 @@ fn is_new(earlier: &[LocalAddr], local: &LocalAddr) -> bool
 }
 
 /// An address with a port, other than the earlier ones.
-#[tactic(auto, unfolding(crate::specs::Reading::local_at))]
+#[tactic(auto, unfolding(crate::specs::InnerReading::local_at))]
 fn local_at<'a>(earlier: &[LocalAddr], octets: &'a [u8]) -> Result<(LocalAddr, &'a [u8]), Unread>
     ensures { Gives (λ x. (x.0, x.1.now)) result (local_at earlier.now octets.now) }
 {
@@ -81,7 +81,7 @@ fn local_at<'a>(earlier: &[LocalAddr], octets: &'a [u8]) -> Result<(LocalAddr, &
 }
 
 /// How many addresses a list has, and the addresses in their places.
-#[tactic(auto, unfolding(crate::specs::Reading::locals_at))]
+#[tactic(auto, unfolding(crate::specs::InnerReading::locals_at))]
 pub fn locals_at(octets: &[u8]) -> Result<(u8, [LocalAddr; 16], &[u8]), Unread>
     ensures value { Gives (λ x. (take x.0 x.1, x.2.now)) result (locals_at octets.now) }
     ensures padded { IfOk result (λ x. IsPadded x.0 x.1) }

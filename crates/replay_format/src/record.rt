@@ -4,7 +4,7 @@ ghost use Rattle.std.specs.Prelude.{◌≡◌, ◌++◌, List, ℕ, length, IfOk
 ghost use Rattle.octet_format.specs.Reading.{Gives};
 ghost use Rattle.refl_types.specs.Configs.{IsConfig};
 ghost use Rattle.replay_format.specs.Records.{Item, Fits, spelling, datagram_of};
-ghost use Rattle.replay_format.specs.Reading.{opening_at, setting_at, closing_at, datagram_at, item_at};
+ghost use Rattle.replay_format.specs.InnerReading.{opening_at, setting_at, closing_at, datagram_at, item_at};
 ghost use Rattle.replay_format.specs.View.{item_of, IsParsed, IsMeasured, IsRecord};
 ghost use Rattle.replay_format.specs.declared.record.Parsed as views;
 
@@ -50,7 +50,7 @@ pub enum Record<'a> {
     },
 }
 
-#[tactic(auto, unfolding(crate::specs::Reading::opening_at))]
+#[tactic(auto, unfolding(crate::specs::InnerReading::opening_at))]
 fn opening_at(octets: &[u8]) -> Result<(Key, Extra, ConfigParts, &[u8]), Unread>
     ensures sound { IfOk result (λ x. IsConfig x.2) }
     ensures value { Gives (λ x. (record { key = x.0; extra = x.1; config = x.2 }, x.3.now)) result (opening_at octets.now) }
@@ -63,7 +63,7 @@ fn opening_at(octets: &[u8]) -> Result<(Key, Extra, ConfigParts, &[u8]), Unread>
     Ok((key, extra, config, rest))
 }
 
-#[tactic(auto, unfolding(crate::specs::Reading::setting_at))]
+#[tactic(auto, unfolding(crate::specs::InnerReading::setting_at))]
 fn setting_at(octets: &[u8]) -> Result<(Key, ConfigParts, &[u8]), Unread>
     ensures sound { IfOk result (λ x. IsConfig x.1) }
     ensures value { Gives (λ x. (record { key = x.0; config = x.1 }, x.2.now)) result (setting_at octets.now) }
@@ -75,7 +75,7 @@ fn setting_at(octets: &[u8]) -> Result<(Key, ConfigParts, &[u8]), Unread>
     Ok((key, config, rest))
 }
 
-#[tactic(auto, unfolding(crate::specs::Reading::closing_at))]
+#[tactic(auto, unfolding(crate::specs::InnerReading::closing_at))]
 fn closing_at(octets: &[u8]) -> Result<(Key, &[u8]), Unread>
     ensures { Gives (λ x. (x.0, x.1.now)) result (closing_at octets.now) }
 {
@@ -85,7 +85,7 @@ fn closing_at(octets: &[u8]) -> Result<(Key, &[u8]), Unread>
     Ok((key, rest))
 }
 
-#[tactic(auto, unfolding(crate::specs::Reading::datagram_at))]
+#[tactic(auto, unfolding(crate::specs::InnerReading::datagram_at))]
 fn datagram_at(octets: &[u8]) -> Result<(Meta, u64, &[u8], &[u8]), Unread>
     ensures value { Gives (λ x. (datagram_of x.0 x.1 x.2.now, x.3.now)) result (datagram_at octets.now) }
     ensures measured { IfOk result (λ x. x.0.len ≡ length x.2.now) }
@@ -123,7 +123,7 @@ fn made(parts: ConfigParts) -> Config
     }
 }
 
-#[tactic(auto, unfolding(crate::specs::Reading::item_at, crate::specs::Reading::body_at))]
+#[tactic(auto, unfolding(crate::specs::InnerReading::item_at, crate::specs::InnerReading::body_at))]
 fn record_at(octets: &[u8]) -> Result<(Record, &[u8]), Unread>
     ensures value { Gives (λ x. (item_of x.0, x.1.now)) result (item_at octets.now) }
     ensures measured { IfOk result (λ x. IsMeasured x.0) }

@@ -2,6 +2,7 @@
 
 ghost use Rattle.std.specs.Prelude.{◌≡◌, ◌+◌, ◌*◌, ◌≤◌, ◌++◌, length, take, drop};
 ghost use Rattle.std.specs.List.{flat_map};
+ghost use Rattle.refl_types.specs.Limits.{datagram_limit};
 ghost use Rattle.refl_types.specs.Spelling.{endpoint_octets};
 ghost use Rattle.replay_format.specs.Records.{Fits, Opens, Sets, Closes, Arrives, Lists, datagram_of, ttl_octets, spelling, record_len};
 ghost use Rattle.replay_format.specs.View.{item_of, IsMeasured};
@@ -63,7 +64,7 @@ fn ttl_octets(ttl: Option<u8>) -> [u8; 2]
 
 fn write_datagram(meta: &Meta, t3: u64, octets: &[u8], out: &mut [u8]) -> usize
     requires room { 44 + length octets.now ≤ length out.old }
-    requires limit { length octets.now ≤ 65507 }
+    requires limit { length octets.now ≤ datagram_limit }
     ensures octets { out.new ≡ spelling (Arrives (datagram_of meta.now t3 octets.now)) ++ drop result out.old }
     ensures count { result ≡ 44 + length octets.now }
     ensures len { length (spelling (Arrives (datagram_of meta.now t3 octets.now))) ≡ 44 + length octets.now }

@@ -2,74 +2,13 @@
 use Rattle.std.proofs.Common.{◌≡◌, ℕ, zero, suc, ◌-◌, Bool, true, false, ◌||◌, eqb, ltb, List, [], ◌∷◌, ◌++◌, length, Option, Some, None, refl, sym, ap, subst, ◌∙◌, inl, inr, ◌⊎◌, arith}
 use Rattle.std.specs.Prelude.{slice_get}
 use Rattle.std.proofs.lemmas.Bool.{eqb-true, lt-ltb, le-ltb}
-use Rattle.refl_types.specs.declared.config.Clock.{Clock}
-use Rattle.refl_types.specs.declared.config.Clock.TheVariants.{Ntp, Ptp}
 use Rattle.refl_types.specs.declared.config.ConfigParts.{ConfigParts}
-use Rattle.refl_types.specs.Same.{same_octets}
-use Rattle.refl_types.proofs.SameFacts.{both_true, eqb-same, octets_same, same_octets-refl}
+use Rattle.refl_types.specs.Same.{same_config}
+use Rattle.refl_types.proofs.SameFacts.{config_same, same_config-refl}
 use Rattle.config_rows.specs.declared.book.Sought.{Sought}
 use Rattle.config_rows.specs.declared.book.Sought.TheVariants.{Known, Next, RowsFull}
 use Rattle.config_rows.specs.Rows.{Rows, HasNoRow, IsSought}
-use Rattle.replay_table.specs.Configs.{same_flag, same_clock, same_block, same_config}
 use Rattle.replay_table.specs.Table.{is_accepted, may_accept, accept}
-
--- ---- what passes the test of equality is equal, and what is equal passes it
-
-flag_same : (a b : Bool) → same_flag a b ≡ true → a ≡ b
-flag_same true true e = refl
-flag_same true false e = absurd cc
-flag_same false true e = absurd cc
-flag_same false false e = refl
-
-clock_same : (a b : Clock) → same_clock a b ≡ true → a ≡ b
-clock_same Ntp Ntp e = refl
-clock_same Ntp Ptp e = absurd cc
-clock_same Ptp Ntp e = absurd cc
-clock_same Ptp Ptp e = refl
-
-block_same : (a b : Option (List ℕ)) → same_block a b ≡ true → a ≡ b
-block_same None None e = refl
-block_same None (Some b) e = absurd cc
-block_same (Some a) None e = absurd cc
-block_same (Some a) (Some b) e = ap (λ (x : List ℕ). Some x) (octets_same a b e)
-
-pub config_same : (a b : ConfigParts) → same_config a b ≡ true → a ≡ b
-unfolding same_config
-config_same a b e =
-    let p8 = both_true _ (same_block a.key b.key) e in
-    let p7 = both_true _ (eqb a.tlvs b.tlvs) p8.0 in
-    let p6 = both_true _ (same_octets a.info b.info) p7.0 in
-    let p5 = both_true _ (eqb a.multiplier b.multiplier) p6.0 in
-    let p4 = both_true _ (eqb a.scale b.scale) p5.0 in
-    let p3 = both_true _ (same_flag a.synced b.synced) p4.0 in
-    let p2 = both_true _ (eqb a.offset b.offset) p3.0 in
-    let p1 = both_true (same_flag a.stateful b.stateful) (same_clock a.clock b.clock) p2.0 in
-    let stateful = flag_same a.stateful b.stateful p1.0 in
-    let clock = clock_same a.clock b.clock p1.1 in
-    let offset = eqb-true a.offset b.offset p2.1 in
-    let synced = flag_same a.synced b.synced p3.1 in
-    let scale = eqb-true a.scale b.scale p4.1 in
-    let multiplier = eqb-true a.multiplier b.multiplier p5.1 in
-    let info = octets_same a.info b.info p6.1 in
-    let tlvs = eqb-true a.tlvs b.tlvs p7.1 in
-    let key = block_same a.key b.key p8.1 in
-    λ j. record { stateful = stateful j; clock = clock j; offset = offset j; synced = synced j; scale = scale j; multiplier = multiplier j; info = info j; tlvs = tlvs j; key = key j }
-
-flag-refl : (a : Bool) → same_flag a a ≡ true
-flag-refl true = refl
-flag-refl false = refl
-
-clock-refl : (a : Clock) → same_clock a a ≡ true
-clock-refl Ntp = refl
-clock-refl Ptp = refl
-
-block-refl : (a : Option (List ℕ)) → same_block a a ≡ true
-block-refl None = refl
-block-refl (Some a) = same_octets-refl a
-
-same_config-refl : (a : ConfigParts) → same_config a a ≡ true
-unfolding same_config
-same_config-refl a = rw (flag-refl a.stateful, clock-refl a.clock, eqb-same a.offset, flag-refl a.synced, eqb-same a.scale, eqb-same a.multiplier, same_octets-refl a.info, eqb-same a.tlvs, block-refl a.key) refl
 
 -- ---- a configuration that has a row was accepted
 

@@ -1,4 +1,3 @@
-pub mod Configs
 pub mod Table
 pub mod Reflection
 pub mod Outcomes

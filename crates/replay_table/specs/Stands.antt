@@ -1,13 +1,14 @@
 -- What the code keeps of a table stands for the table: its counts are those of the table modulo 2^32.
 use Rattle.std.specs.Prelude.{ℕ, ◌≡◌, ◌≤◌, ◌%◌, ◌^◌, List, [], ◌∷◌, ◌++◌, length, drop}
 use Rattle.refl_types.specs.declared.types.Endpoint.{Endpoint}
+use Rattle.refl_types.specs.Limits.{datagram_limit}
 use Rattle.config_rows.specs.Rows.{Rows}
 use Rattle.reflect_core.specs.Judgement.{judgement}
 use Rattle.reflect_core.specs.declared.judging.Judged.TheVariants.{Reflect}
 use Rattle.replay_format.specs.declared.code.OpenAnswer.{OpenAnswer}
 use Rattle.replay_format.specs.declared.code.SetAnswer.{SetAnswer}
 use Rattle.replay_format.specs.Records.{Item, Arrives, Opening, Setting, Datagram}
-use Rattle.replay_format.specs.Answers.{Sent, answer_octets}
+use Rattle.replay_format.specs.Answers.{Sent, answer_limit, answer_octets}
 use Rattle.replay_table.specs.declared.session.Session.{Session}
 use Rattle.replay_table.specs.Table.{Entry, Table}
 use Rattle.replay_table.specs.Reflection.{sending}
@@ -55,13 +56,13 @@ pub record HasSet (t : Table) (s : Setting) (a : SetAnswer) (ss : List Session) 
 -- a datagram of the session that is reflected
 pub record IsReflected (s : Session) (octets : List ℕ) : Type 0 where
   pub judged : judgement s.key.mode s.config octets ≡ Reflect
-  pub limit : length octets ≤ 65507
+  pub limit : length octets ≤ datagram_limit
 
 -- the answer to such a datagram was written at the front, n octets, where these are the reflector's own addresses
 pub record IsSent (locals : List Endpoint) (s : Session) (d : Datagram) (before written : List ℕ) (n : ℕ) : Type 0 where
   pub octets : (e : Entry) → StandsFor s e → written ≡ answer_octets (Sent (sending locals e d)) ++ drop n before
   pub len : (e : Entry) → StandsFor s e → n ≡ length (answer_octets (Sent (sending locals e d)))
-  pub fits : n ≤ 65538
+  pub fits : n ≤ answer_limit
 
 -- the answer to a datagram was written at the front, n octets, and the sessions after it are kept
 pub record IsArrived (t : Table) (new : List Session) (d : Datagram) (before written : List ℕ) (n : ℕ) : Type 0 where

@@ -6,10 +6,9 @@ use Rattle.refl_types.specs.declared.types.Endpoint.{Endpoint}
 use Rattle.refl_types.specs.declared.types.Key.{Key}
 use Rattle.refl_types.specs.declared.types.Extra.{Extra}
 use Rattle.refl_types.specs.declared.config.ConfigParts.{ConfigParts}
-use Rattle.refl_types.specs.Same.{same_endpoint, same_mode, same_key}
+use Rattle.refl_types.specs.Same.{same_endpoint, same_mode, same_key, same_config}
 use Rattle.session_key.specs.declared.matching.Query.{Query}
 use Rattle.session_key.specs.Matching.{matches}
-use Rattle.replay_table.specs.Configs.{same_config}
 
 -- a session: its count is how many numbers it has drawn, without a bound
 pub record Entry : Type 0 where

@@ -1,10 +1,11 @@
 //! The sessions of a replay.
 
 ghost use Rattle.std.specs.Prelude.{ℕ, ◌≡◌, ◌≤◌, ◌++◌, [], drop, length, position, IfOk};
+ghost use Rattle.refl_types.specs.Limits.{datagram_limit};
 ghost use Rattle.session_key.specs.Matching.{query_of, matches};
 ghost use Rattle.replay_format.specs.declared.code.UnsentCause as causes;
 ghost use Rattle.replay_format.specs.Records.{Arrives, datagram_of};
-ghost use Rattle.replay_format.specs.Answers.{Unsent, answer_octets};
+ghost use Rattle.replay_format.specs.Answers.{Unsent, answer_limit, answer_octets};
 ghost use Rattle.replay_table.specs.Table.{Table, empty_table};
 ghost use Rattle.replay_table.specs.Stands.{SessionsStand, Stands, IsArrived, IsAnswered};
 
@@ -75,7 +76,7 @@ fn write_unsent(cause: UnsentCause, out: &mut [u8]) -> usize
     requires { ANSWER_ROOM ≤ length out.old }
     ensures octets { out.new ≡ answer_octets (Unsent cause) ++ drop result out.old }
     ensures len { result ≡ length (answer_octets (Unsent cause)) }
-    ensures fits { result ≤ 65538 }
+    ensures fits { result ≤ answer_limit }
 {
     write_outcome(&Outcome::Unsent(cause), out)
 }
@@ -91,10 +92,10 @@ fn arrive(
     out: &mut [u8],
 ) -> usize
     requires measured { meta.now.len ≡ length octets.now }
-    requires limit { length octets.now ≤ 65507 }
+    requires limit { length octets.now ≤ datagram_limit }
     requires locals { length locals.now ≤ 16 }
     requires room { ANSWER_ROOM ≤ length out.old }
-    ensures fits { result ≤ 65538 }
+    ensures fits { result ≤ answer_limit }
     ensures answered { (t : Table) → SessionsStand list.old t.sessions → locals.now ≡ t.locals → IsArrived t list.new (datagram_of meta.now t3 octets.now) out.old out.new result }
 {
     let Some(place) = place_of(list, meta, octets) else {
@@ -142,9 +143,9 @@ impl Sessions {
     pub fn arrive(&mut self, meta: &Meta, t3: u64, octets: &[u8], out: &mut [u8]) -> usize
         requires room { ANSWER_ROOM ≤ length out.old }
         requires measured { meta.now.len ≡ length octets.now }
-        requires limit { length octets.now ≤ 65507 }
+        requires limit { length octets.now ≤ datagram_limit }
         ensures answered { (t : Table) → Stands self.old t → IsAnswered t self.new (Arrives (datagram_of meta.now t3 octets.now)) out.old out.new result }
-        ensures fits { result ≤ 65538 }
+        ensures fits { result ≤ answer_limit }
     {
         let locals = &self.locals[..self.local_count as usize];
         arrive(&mut self.list, locals, meta, t3, octets, out)
@@ -155,9 +156,9 @@ impl Sessions {
     pub fn arrive_apart(&mut self, meta: &Meta, t3: u64, octets: &[u8], out: &mut [u8]) -> usize
         requires room { ANSWER_ROOM ≤ length out.old }
         requires measured { meta.now.len ≡ length octets.now }
-        requires limit { length octets.now ≤ 65507 }
+        requires limit { length octets.now ≤ datagram_limit }
         ensures answered { (t : Table) → Stands self.old t → IsAnswered t self.new (Arrives (datagram_of meta.now t3 octets.now)) out.old out.new result }
-        ensures fits { result ≤ 65538 }
+        ensures fits { result ≤ answer_limit }
     {
         let locals = &self.locals[..self.local_count as usize];
         arrive(&mut self.list, locals, meta, t3, octets, out)
@@ -170,7 +171,7 @@ impl Sessions {
         requires measured { IsMeasured item.now }
         requires fits { Fits (item_of item.now) }
         ensures answered { (t : Table) → Stands self.old t → IsAnswered t self.new (item_of item.now) out.old out.new result }
-        ensures fits { result ≤ 65538 }
+        ensures fits { result ≤ answer_limit }
     {
         match item {
             Record::Open { key, extra, config } => {

@@ -4,5 +4,5 @@
 mod reading;
 mod writing;
 
-pub use reading::{AuthFault, auth_sender, read_auth, read_auth_keyed};
+pub use reading::{AUTH_LEN, AuthFault, auth_sender, read_auth, read_auth_keyed};
 pub use writing::{write_auth, write_auth_keyed};

@@ -8,10 +8,10 @@ use octet_format::{field2, field4, field8, field16};
 use stamp_packet::SenderBase;
 
 /// Octets of an authenticated base packet.
-const AUTH_LEN: usize = 112;
+pub const AUTH_LEN: usize = 112;
 
 /// Octets of it that its HMAC covers.
-const COVERED: usize = 96;
+pub(crate) const COVERED: usize = 96;
 
 /// Why a request isn't read. The sender or the network is to blame.
 #[derive(Clone, Copy, Debug, PartialEq, Eq)]

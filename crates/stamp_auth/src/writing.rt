@@ -3,12 +3,10 @@
 ghost use Rattle.std.specs.Prelude.{◌≡◌, ◌≤◌, ◌++◌, length, take, drop};
 ghost use Rattle.stamp_auth.specs.Reply.{own_fields, copied_fields, auth_fields, auth_reply};
 
+use crate::reading::COVERED;
 use hmac_sha256::KeyedHash;
 use octet_format::put;
 use stamp_packet::ReplyBase;
-
-/// Octets of a base packet that its HMAC covers.
-const COVERED: usize = 96;
 
 /// Writes the fields up to the Receive Timestamp.
 fn write_own(reply: &ReplyBase, out: &mut [u8])

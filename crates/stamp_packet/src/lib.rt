@@ -5,4 +5,4 @@ mod fields;
 mod plain;
 
 pub use fields::{ReplyBase, SenderBase, Short};
-pub use plain::{read_plain, write_plain, write_plain_to};
+pub use plain::{PLAIN_LEN, read_plain, write_plain, write_plain_to};

@@ -7,8 +7,8 @@ ghost use Rattle.stamp_packet.specs.Plain.{read_of, sender_of, IsRequest, plain_
 use crate::fields::{ReplyBase, SenderBase, Short};
 use octet_format::{field2, field4, field8, put_array};
 
-/// Octets of a base packet.
-const PLAIN_LEN: usize = 44;
+/// Octets of an unauthenticated base packet.
+pub const PLAIN_LEN: usize = 44;
 
 /// Reads a request. The octets that must be zero are ignored.
 #[inline(always)]

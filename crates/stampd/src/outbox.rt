@@ -3,9 +3,10 @@
 ghost use Rattle.std.specs.Prelude.{ℕ, ◌≡◌, ◌+◌, ◌≤◌, ◌↔◌, ◌++◌, List, [], length, take, vec_len, IsTrue, IfOk, OnOk, OnErr};
 ghost use Rattle.std.specs.Io.KnownBytes.{Appends};
 ghost use Rattle.port_io.specs.Outside.{Rises, AppendsFront};
+ghost use Rattle.refl_types.specs.Limits.{datagram_limit};
 ghost use Rattle.replay_format.specs.View.{item_of, IsMeasured};
 ghost use Rattle.replay_format.specs.Records.{Arrives, Fits, datagram_of};
-ghost use Rattle.replay_format.specs.Answers.{Left, answer_octets};
+ghost use Rattle.replay_format.specs.Answers.{Left, answer_limit, answer_octets};
 ghost use Rattle.replay_table.specs.Table.{Table};
 ghost use Rattle.replay_table.specs.Outcomes.{answer, after};
 ghost use Rattle.replay_table.specs.Stands.{Stands};
@@ -169,7 +170,7 @@ fn answer_behind(sessions: &mut Sessions, item: &Record, octets: &mut [u8], at: 
     requires room { at + ANSWER_ROOM ≤ length octets.old }
     requires measured { IsMeasured item.now }
     requires fits { Fits (item_of item.now) }
-    ensures fits { result ≤ 65538 }
+    ensures fits { result ≤ answer_limit }
     ensures answer { (t : Table) → Stands sessions.old t → (take (at + result) octets.new ≡ take at octets.old ++ answer_octets (answer t (item_of item.now))) × Stands sessions.new (after t (item_of item.now)) }
 {
     sessions.answer(item, &mut octets[at..])
@@ -187,8 +188,8 @@ fn reply_behind(
 ) -> usize
     requires room { at + ANSWER_ROOM ≤ length octets.old }
     requires measured { meta.now.len ≡ length text.now }
-    requires limit { length text.now ≤ 65507 }
-    ensures fits { result ≤ 65538 }
+    requires limit { length text.now ≤ datagram_limit }
+    ensures fits { result ≤ answer_limit }
     ensures answer { (t : Table) → Stands sessions.old t → (take (at + result) octets.new ≡ take at octets.old ++ answer_octets (answer t (Arrives (datagram_of meta.now t3 text.now)))) × Stands sessions.new (after t (Arrives (datagram_of meta.now t3 text.now))) }
 {
     sessions.arrive(meta, t3, text, &mut octets[at..])
@@ -197,7 +198,7 @@ fn reply_behind(
 /// Writes an offset from a place on.
 fn leave_behind(offset: u64, octets: &mut [u8], at: usize) -> usize
     requires { at + ANSWER_ROOM ≤ length octets.old }
-    ensures fits { result ≤ 65538 }
+    ensures fits { result ≤ answer_limit }
     ensures answer { take (at + result) octets.new ≡ take at octets.old ++ answer_octets (Left offset) }
 {
     write_outcome(&Outcome::Left(offset), &mut octets[at..])

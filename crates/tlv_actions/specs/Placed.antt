@@ -4,10 +4,10 @@ use Rattle.std.specs.Prelude.{ℕ, ◌+◌, Bool, true, ◌&&◌, ◌==◌, not,
 use Rattle.std.specs.List.{find}
 use Rattle.refl_types.specs.declared.config.ConfigParts.{ConfigParts}
 use Rattle.tlv_chain.specs.declared.span.Span.{Span}
-use Rattle.tlv_chain.specs.Tlv.{Tlv}
+use Rattle.tlv_chain.specs.Tlv.{Tlv, destination_node_address}
 use Rattle.tlv_chain.specs.Split.{split}
 use Rattle.tlv_chain.specs.Walking.{tlv_at}
-use Rattle.tlv_actions.specs.Rows.{destination_node_address, is_understood, is_malformed}
+use Rattle.tlv_actions.specs.Rows.{is_understood, is_malformed}
 
 pub record PlacedTlv : Type 0 where
   pub at : ℕ

@@ -9,12 +9,11 @@ use Rattle.refl_types.specs.declared.types.Endpoint.{Endpoint}
 use Rattle.refl_types.specs.declared.types.Meta.{Meta}
 use Rattle.refl_types.specs.declared.config.ConfigParts.{ConfigParts}
 use Rattle.refl_types.specs.Same.{same_endpoint}
-use Rattle.tlv_chain.specs.Tlv.{Tlv}
+use Rattle.tlv_chain.specs.Tlv.{Tlv, destination_node_address, return_path}
 use Rattle.tlv_chain.specs.Split.{split}
 use Rattle.tlv_actions.specs.declared.facts.Plan.{Plan}
 use Rattle.tlv_actions.specs.declared.planning.OwnAddress.{OwnAddress}
 use Rattle.tlv_actions.specs.declared.planning.UsablePath.{UsablePath}
-use Rattle.tlv_actions.specs.Rows.{destination_node_address, return_path}
 use Rattle.tlv_actions.specs.Placed.{PlacedTlv, placed, acted, first_of}
 
 -- ---- addresses of a family

@@ -6,32 +6,11 @@ use Rattle.std.specs.Int.{w32, to_be_bytes}
 use Rattle.refl_types.specs.declared.config.ConfigParts.{ConfigParts}
 use Rattle.refl_types.specs.Configs.{supports, may_be_supported}
 use Rattle.tlv_chain.specs.declared.span.Span.{Span}
-use Rattle.tlv_chain.specs.Tlv.{Tlv, tlv_octets, unrecognized, malformed}
+use Rattle.tlv_chain.specs.Tlv.{Tlv, tlv_octets, extra_padding, timestamp_information, direct_measurement, hmac, destination_node_address, return_path, unrecognized, malformed}
 use Rattle.tlv_actions.specs.declared.facts.Plan.{Plan}
 use Rattle.tlv_actions.specs.declared.facts.ReplyFacts as told
 use Rattle.tlv_actions.specs.declared.reply.Acted.{Acted}
 use Rattle.tlv_actions.specs.declared.reply.Acted.TheVariants.{Done, Malformed}
-
--- ---- types (RFC 8972, section 4: Extra Padding, Timestamp Information, Direct Measurement, HMAC; RFC 9503, sections 3
--- and 4: Destination Node Address, Return Path)
-
-abbrev pub extra_padding : ℕ
-extra_padding = 1
-
-abbrev pub timestamp_information : ℕ
-timestamp_information = 3
-
-abbrev pub direct_measurement : ℕ
-direct_measurement = 5
-
-abbrev pub hmac : ℕ
-hmac = 8
-
-abbrev pub destination_node_address : ℕ
-destination_node_address = 9
-
-abbrev pub return_path : ℕ
-return_path = 10
 
 -- Extra Padding always, HMAC with a key, and others by their bit of tlvs
 unfoldable pub is_understood : ConfigParts → ℕ → Bool

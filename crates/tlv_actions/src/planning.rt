@@ -3,19 +3,17 @@
 ghost use Rattle.std.specs.Prelude.{◌≡◌, ℕ, ◌+◌, ◌≤◌, ◌==◌, ◌||◌, if◌then◌else◌, length, Option, Some, None, IfSome, option_map, option_and_then, position};
 ghost use Rattle.octet_format.specs.Octets.{field};
 ghost use Rattle.refl_types.specs.Same.{same_endpoint};
+ghost use Rattle.tlv_chain.specs.Tlv.{destination_node_address, return_path};
 ghost use Rattle.tlv_chain.specs.Walking.{tlv_at};
-ghost use Rattle.tlv_actions.specs.Rows.{destination_node_address, return_path, is_understood};
+ghost use Rattle.tlv_actions.specs.Rows.{is_understood};
 ghost use Rattle.tlv_actions.specs.Placed.{placed, placed_at, acted, first_of};
 ghost use Rattle.tlv_actions.specs.Planned.{address_like, is_address_like, local_with, own_local, own_address, sub_tlv, return_to, usable_path, planned, wants_none, no_reply};
 
 use crate::facts::Plan;
-use crate::rows::{DESTINATION_NODE_ADDRESS, RETURN_PATH, is_malformed, is_understood};
+use crate::rows::{is_malformed, is_understood};
 use octet_format::{field4, field16};
 use refl_types::{Address, Config, ConfigParts, Endpoint, LocalAddr, Meta};
-use tlv_chain::{Span, Walk};
-
-/// Octets of the header of a TLV.
-const HEADER_LEN: usize = 4;
+use tlv_chain::{DESTINATION_NODE_ADDRESS, HEADER_LEN, RETURN_PATH, Span, Walk};
 
 /// The Control Code (RFC 9503, section 4.1.1).
 const CONTROL_CODE: u8 = 1;

@@ -5,19 +5,12 @@ ghost use Rattle.tlv_chain.specs.Walking.{tlv_at};
 ghost use Rattle.tlv_actions.specs.Rows.{WritesTlv, HoldsTlv, facts_of, tlv_of, reply_tlv, acted_on};
 
 use crate::facts::ReplyFacts;
-use crate::rows::{
-    DIRECT_MEASUREMENT, TIMESTAMP_INFORMATION, UNRECOGNIZED, flags_at, is_at, is_malformed,
-    is_understood, measured,
-};
+use crate::rows::{flags_at, is_at, is_malformed, is_understood, measured};
 use octet_format::{field4, put};
 use refl_types::{Config, ConfigParts};
-use tlv_chain::Span;
-
-/// Octets of the header of a TLV.
-const HEADER_LEN: usize = 4;
-
-/// The M flag (RFC 8972, section 4).
-const MALFORMED: u8 = 0x40;
+use tlv_chain::{
+    DIRECT_MEASUREMENT, HEADER_LEN, MALFORMED, Span, TIMESTAMP_INFORMATION, UNRECOGNIZED,
+};
 
 /// Whether the TLVs after this one are processed.
 #[derive(Clone, Copy, Debug, PartialEq, Eq)]

@@ -6,27 +6,10 @@ ghost use Rattle.tlv_actions.specs.Rows.{is_understood, has_valid_length, is_mal
 use crate::facts::Plan;
 use octet_format::put;
 use refl_types::ConfigParts;
-
-/// Extra Padding (RFC 8972, section 4.1).
-pub const EXTRA_PADDING: u8 = 1;
-
-/// Timestamp Information (RFC 8972, section 4.3).
-pub const TIMESTAMP_INFORMATION: u8 = 3;
-
-/// Direct Measurement (RFC 8972, section 4.5).
-pub const DIRECT_MEASUREMENT: u8 = 5;
-
-/// HMAC (RFC 8972, section 4.8).
-pub const HMAC: u8 = 8;
-
-/// Destination Node Address (RFC 9503, section 3).
-pub const DESTINATION_NODE_ADDRESS: u8 = 9;
-
-/// Return Path (RFC 9503, section 4).
-pub const RETURN_PATH: u8 = 10;
-
-/// The U flag (RFC 8972, section 4).
-pub const UNRECOGNIZED: u8 = 0x80;
+use tlv_chain::{
+    DESTINATION_NODE_ADDRESS, DIRECT_MEASUREMENT, EXTRA_PADDING, HMAC, RETURN_PATH,
+    TIMESTAMP_INFORMATION, UNRECOGNIZED,
+};
 
 /// Whether a type is understood under a configuration.
 #[inline]

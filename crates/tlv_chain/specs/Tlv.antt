@@ -7,6 +7,27 @@ pub record Tlv : Type 0 where
   pub kind : ℕ
   pub value : List ℕ
 
+-- ---- the types (RFC 8972, section 4: Extra Padding, Timestamp Information, Direct Measurement, HMAC; RFC 9503, sections 3
+-- and 4: Destination Node Address, Return Path)
+
+abbrev pub extra_padding : ℕ
+extra_padding = 1
+
+abbrev pub timestamp_information : ℕ
+timestamp_information = 3
+
+abbrev pub direct_measurement : ℕ
+direct_measurement = 5
+
+abbrev pub hmac : ℕ
+hmac = 8
+
+abbrev pub destination_node_address : ℕ
+destination_node_address = 9
+
+abbrev pub return_path : ℕ
+return_path = 10
+
 -- ---- the flags (RFC 8972, section 4): the type isn't understood, the TLV is malformed, the integrity check failed
 
 abbrev pub unrecognized : ℕ

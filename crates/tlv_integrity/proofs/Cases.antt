@@ -1,6 +1,5 @@
 -- The cases of integrity.
 use Rattle.std.proofs.Common.{◌≡◌, ℕ, ◌+◌, ◌∙◌, Bool, true, false, ◌&&◌, if◌then◌else◌, eqb, nat_eq, List, [], ◌∷◌, ◌++◌, length, take, drop, Option, Some, None, option_to_list, refl, sym, ap, inl, inr, ◌⊎◌}
-use Rattle.std.proofs.lemmas.Bool.Decides.{eqb_tells}
 use Rattle.std.specs.Cmp.Lexicographic.{pointwise}
 use Rattle.hmac_sha256.specs.Hmac.{mac128_of}
 use Rattle.refl_types.specs.declared.types.Mode.{Mode}
@@ -11,8 +10,9 @@ use Rattle.tlv_chain.specs.Split.{split}
 use Rattle.tlv_integrity.proofs.Loops.{first_skips, first_takes}
 use Rattle.tlv_integrity.specs.declared.integrity.Integrity.{Integrity}
 use Rattle.tlv_integrity.specs.declared.integrity.Integrity.TheVariants.{Absent, Passed, Failed}
-use Rattle.tlv_integrity.specs.Heads.{Placed, first_from, placed_at, heads, kinds, rest_head, all_padding, has_hmac, IsFirstHmac, HasNoHmac}
-use Rattle.tlv_integrity.specs.Integrity.{fits, covered, integrity_of, integrity, may_lack_hmac, without, is_hmac_head}
+use Rattle.tlv_integrity.specs.Heads.{Placed, first_from, heads, kinds, rest_head, all_padding, has_hmac}
+use Rattle.tlv_integrity.specs.Integrity.{fits, covered, integrity_of, integrity, may_lack_hmac}
+use Rattle.tlv_integrity.specs.InnerSteps.{placed_at, IsFirstHmac, HasNoHmac, without, is_hmac_head}
 
 -- ---- whether the HMAC TLV fits
 
@@ -74,10 +74,3 @@ absent_is mode block sequence tail at none =
     heads_or (rest_head (drop at tail)) Failed lack
     ∙ ap (λ (b : Bool). if b then Failed else lack) (sym has)
     ∙ ap (λ (o : Option Placed). if has_hmac (heads s) then covered block sequence tail o s.rest else lack) (sym none.none)
-
-pub is_not : (a b : ℕ) → (a ≡ b → ⊥) → eqb a b ≡ false
-is_not a b ne =
-    elim (eqb_tells a b) [
-      | inl p ↦ absurd (ne p.1)
-      | inr p ↦ p.0
-    ]

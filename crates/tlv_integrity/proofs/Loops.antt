@@ -5,7 +5,8 @@ use Rattle.tlv_chain.specs.Tlv.{Tlv}
 use Rattle.tlv_chain.specs.Split.{Split, split, add_first}
 use Rattle.tlv_chain.specs.Walking.{Walking, IsAtRest, WentPast, tlv_at}
 use Rattle.tlv_chain.proofs.Walks.{step_of, rest_of, past, length-value_at}
-use Rattle.tlv_integrity.specs.Heads.{first_from, IsFirstHmac, HasNoHmac, heads, rest_head, all_padding}
+use Rattle.tlv_integrity.specs.Heads.{first_from, heads, rest_head, all_padding}
+use Rattle.tlv_integrity.specs.InnerSteps.{IsFirstHmac, HasNoHmac}
 
 -- ---- to the first HMAC TLV
 

@@ -1,18 +1,8 @@
--- The heads of a tail: the types of the TLVs of its split, and the type octet of a rest of four octets or more. This is
--- this project's own.
-use Rattle.std.specs.Prelude.{◌≡◌, ℕ, ◌+◌, ◌≤◌, Bool, true, false, ◌==◌, nat_lt, if◌then◌else◌, List, [], ◌∷◌, ◌++◌, length, drop, get_or, Option, Some, None, option_to_list}
-use Rattle.octet_format.specs.Octets.{field}
-use Rattle.tlv_chain.specs.declared.span.Span.{Span}
-use Rattle.tlv_chain.specs.Tlv.{Tlv}
-use Rattle.tlv_chain.specs.Split.{Split, split}
-use Rattle.tlv_integrity.specs.declared.heads.First.{First}
-use Rattle.tlv_integrity.specs.declared.heads.First.TheVariants.{Hmac, Rest}
-
-abbrev pub extra_padding : ℕ
-extra_padding = 1
-
-abbrev pub hmac : ℕ
-hmac = 8
+-- The heads of a tail: the types of the TLVs of its split, and the type octet of a rest of four octets or more. They are
+-- words of this project's reading of RFC 8972, section 4.8.
+use Rattle.std.specs.Prelude.{ℕ, ◌+◌, Bool, true, false, ◌==◌, nat_lt, if◌then◌else◌, List, [], ◌∷◌, ◌++◌, length, get_or, Option, Some, None, option_to_list}
+use Rattle.tlv_chain.specs.Tlv.{Tlv, extra_padding, hmac}
+use Rattle.tlv_chain.specs.Split.{Split}
 
 abbrev pub rest_head : List ℕ → Option ℕ
 rest_head rest = if nat_lt (length rest) 4 then None else Some (get_or rest 1 0)
@@ -52,23 +42,3 @@ first_from at [] = None
 first_from at (t ∷ ts) =
     if t.kind == hmac then Some (record { at = at; value = t.value; after = ts })
     else first_from (at + 4 + length t.value) ts
-
--- the one at a span
-abbrev pub placed_at : List ℕ → Span → Placed
-placed_at tail span = record { at = span.at; value = field (span.at + 4) span.len tail; after = (split (drop (span.at + 4 + span.len) tail)).tlvs }
-
--- the first TLV of type 8 stands at a span, which the split goes on from
-pub record IsFirstHmac (tail : List ℕ) (span : Span) : Type 0 where
-  pub first : first_from 0 (split tail).tlvs ≡ Some (placed_at tail span)
-  pub within : span.at + 4 + span.len ≤ length tail
-  pub rest : (split tail).rest ≡ (split (drop (span.at + 4 + span.len) tail)).rest
-
--- there is none, and the rest begins at a place
-pub record HasNoHmac (tail : List ℕ) (at : ℕ) : Type 0 where
-  pub none : first_from 0 (split tail).tlvs ≡ None
-  pub within : at ≤ length tail
-  pub rest : (split tail).rest ≡ drop at tail
-
-abbrev pub IsFirst : List ℕ → First → Type 0
-IsFirst tail (Hmac span) = IsFirstHmac tail span
-IsFirst tail (Rest at) = HasNoHmac tail at

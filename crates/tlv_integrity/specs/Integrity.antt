@@ -1,5 +1,5 @@
 -- The integrity of a tail. Which octets the HMAC TLV covers, where it may stand and when it must be there is this
--- project's own, after RFC 8972, section 4.8.
+-- project's reading of RFC 8972, section 4.8.
 use Rattle.std.specs.Prelude.{ℕ, ◌+◌, ◌≤◌, IsSome, Bool, true, false, ◌==◌, ◌&&◌, nat_eq, if◌then◌else◌, List, ◌++◌, length, take, Option, Some, None, option_to_list}
 use Rattle.std.specs.Cmp.Lexicographic.{pointwise}
 use Rattle.hmac_sha256.specs.Hmac.{mac128_of}
@@ -41,16 +41,6 @@ integrity_under mode (Some block) sequence tail = integrity_of mode block sequen
 -- of a tail, under a configuration and the request's Sequence Number
 unfoldable pub integrity : Mode → ConfigParts → List ℕ → List ℕ → Integrity
 integrity mode c sequence tail = integrity_under mode c.key sequence tail
-
--- where no whole TLV is of type 8
-abbrev pub is_hmac_head : Option ℕ → Bool
-is_hmac_head None = false
-is_hmac_head (Some kind) = kind == 8
-
-abbrev pub without : Mode → Option ℕ → List ℕ → Integrity
-without mode head heads =
-    if is_hmac_head head then Failed
-    else (if may_lack_hmac mode heads then Absent else Failed)
 
 -- a place is that of a whole HMAC TLV of a tail, under a key
 abbrev pub IsPlaced : Integrity → ConfigParts → ℕ → Type 0

@@ -1,3 +1,4 @@
 pub mod Heads
 pub mod Integrity
 pub mod Sealing
+pub mod InnerSteps

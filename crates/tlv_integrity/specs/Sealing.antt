@@ -1,4 +1,4 @@
--- The HMAC TLV of a reply (RFC 8972, section 4.8). What it covers is this project's own.
+-- The HMAC TLV of a reply (RFC 8972, section 4.8). What it covers is this project's reading of that section.
 use Rattle.std.specs.Prelude.{ℕ, ◌+◌, List, ◌∷◌, ◌++◌, take, drop}
 use Rattle.octet_format.specs.Octets.{field}
 use Rattle.hmac_sha256.specs.Hmac.{mac128_of}

@@ -2,15 +2,10 @@
 
 ghost use Rattle.std.specs.Prelude.{◌≡◌, option_to_list};
 ghost use Rattle.tlv_chain.specs.Split.{split};
-ghost use Rattle.tlv_integrity.specs.Heads.{all_padding, heads, is_lone_padding, rest_head, IsFirst};
+ghost use Rattle.tlv_integrity.specs.Heads.{all_padding, heads, is_lone_padding, rest_head};
+ghost use Rattle.tlv_integrity.specs.InnerSteps.{IsFirst};
 
-use tlv_chain::{Span, Walk};
-
-/// Extra Padding (RFC 8972, section 4.1).
-const EXTRA_PADDING: u8 = 1;
-
-/// HMAC (RFC 8972, section 4.8).
-const HMAC: u8 = 8;
+use tlv_chain::{EXTRA_PADDING, HEADER_LEN, HMAC, Span, Walk};
 
 /// What a walk to the first HMAC TLV came to.
 #[derive(Clone, Copy, Debug)]
@@ -39,7 +34,7 @@ pub fn first_hmac(tail: &[u8]) -> First
 pub fn rest_head(rest: &[u8]) -> Option<u8>
     ensures { result ≡ rest_head rest.now }
 {
-    if rest.len() < 4 {
+    if rest.len() < HEADER_LEN {
         return None;
     }
     Some(rest[1])
@@ -84,5 +79,5 @@ pub fn is_lone_padding(octets: &[u8]) -> bool
     let None = walk.next() else {
         return false;
     };
-    octets.len() - walk.rest() < 4
+    octets.len() - walk.rest() < HEADER_LEN
 }

@@ -1,26 +1,18 @@
-//! The integrity of a tail. The rule is this project's own, after RFC 8972, section 4.8.
+//! The integrity of a tail. The rule is this project's reading of RFC 8972, section 4.8.
 
 ghost use Rattle.std.specs.Prelude.{ℕ, ◌≡◌, true, ◌+◌, ◌≤◌, length, drop};
-ghost use Rattle.tlv_integrity.specs.Integrity.{integrity, integrity_of, fits, without, IsPlaced};
+ghost use Rattle.tlv_integrity.specs.Integrity.{integrity, integrity_of, fits, IsPlaced};
 ghost use Rattle.tlv_integrity.specs.declared.integrity.Integrity.TheVariants.{Passed};
-ghost use Rattle.tlv_integrity.specs.Heads.{heads, placed_at, rest_head};
+ghost use Rattle.tlv_integrity.specs.Heads.{heads, rest_head};
+ghost use Rattle.tlv_integrity.specs.InnerSteps.{placed_at, without};
 ghost use Rattle.tlv_chain.specs.Split.{split};
 
 use crate::heads::{First, all_padding, first_hmac, is_lone_padding, rest_head};
-use hmac_sha256::KeyedHash;
+use hmac_sha256::{KeyedHash, MAC_LEN};
 use keyed_config::KeyedConfig;
 use octet_format::field16;
 use refl_types::{Config, Mode};
-use tlv_chain::Span;
-
-/// HMAC (RFC 8972, section 4.8).
-const HMAC: u8 = 8;
-
-/// Octets of an HMAC TLV before its value.
-const HEADER_LEN: usize = 4;
-
-/// Octets of its value.
-const MAC_LEN: u16 = 16;
+use tlv_chain::{HEADER_LEN, HMAC, Span};
 
 /// What is known of a tail.
 #[derive(Clone, Copy, Debug, PartialEq, Eq)]
@@ -39,7 +31,7 @@ fn fits(key: &KeyedHash, sequence: &[u8; 4], tail: &[u8], span: &Span) -> bool
     ensures len { result ≡ true → span.now.len ≡ 16 }
     ensures value { result ≡ fits key.now sequence.now tail.now (placed_at tail.now span.now) (split (drop (span.now.at + 4 + span.now.len) tail.now)).rest }
 {
-    if span.len != MAC_LEN {
+    if usize::from(span.len) != MAC_LEN {
         return false;
     }
     let (_, after) = tail.split_at(span.at + HEADER_LEN + usize::from(span.len));

@@ -8,9 +8,7 @@ use hmac_sha256::KeyedHash;
 use keyed_config::KeyedConfig;
 use octet_format::put;
 use refl_types::Config;
-
-/// Octets of an HMAC TLV before its value.
-const HEADER_LEN: usize = 4;
+use tlv_chain::HEADER_LEN;
 
 fn seal_under(key: &KeyedHash, sequence: &[u8; 4], out: &mut [u8], at: usize)
     requires { at + 20 ≤ length out.old }

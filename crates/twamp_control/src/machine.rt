@@ -18,16 +18,11 @@ ghost use Rattle.twamp_control.specs.Table.{
 use crate::replies::{
     put_accept, put_refusal, put_server_start, put_start_ack, reflected, session_id,
 };
-use crate::stream::{SET_UP_LENGTH, length_of, message_at};
+use crate::stream::{length_of, message_at};
 use crate::types::{Ask, DeskAnswer, Message, Stage, Stepped};
-use control_msgs::{is_open_mode, read_request};
+use control_msgs::{Accept, REQUEST_LEN, SET_UP_LEN, is_open_mode, read_request};
 use octet_format::put;
 use std::marker::Model;
-
-/// Values of an Accept field (RFC 4656, section 3.3).
-const OK: u8 = 0;
-
-const NOT_SUPPORTED: u8 = 3;
 
 /// A connection of TWAMP-Control, after its greeting was sent. Contracts see it as a `Connection`: how far its octets
 /// have been read, its stage, its mode and its count of sessions.
@@ -35,7 +30,7 @@ const NOT_SUPPORTED: u8 = 3;
 pub struct Machine {
     start: u64,
     first: bool,
-    buffer: [u8; SET_UP_LENGTH],
+    buffer: [u8; SET_UP_LEN],
     count: usize,
     stage: Stage,
     mode: u32,
@@ -80,7 +75,7 @@ impl Machine {
         Machine {
             start,
             first: true,
-            buffer: [0; SET_UP_LENGTH],
+            buffer: [0; SET_UP_LEN],
             count: 0,
             stage: Stage::SettingUp,
             mode: 0,
@@ -197,11 +192,11 @@ impl Machine {
             return self.hang_up();
         }
         if !is_open_mode(mode) {
-            let len = put_server_start(NOT_SUPPORTED, self.start, out);
+            let len = put_server_start(Accept::NotSupported.code(), self.start, out);
             self.stage = Stage::HungUp;
             return Stepped { len, hang_up: true };
         }
-        let len = put_server_start(OK, self.start, out);
+        let len = put_server_start(Accept::Accepted.code(), self.start, out);
         self.stage = Stage::Idle;
         self.mode = mode;
         Stepped {
@@ -212,7 +207,7 @@ impl Machine {
 
     fn request(
         &mut self,
-        octets: &[u8; 112],
+        octets: &[u8; REQUEST_LEN],
         answer: &DeskAnswer,
         now: u64,
         out: &mut [u8; 64],
@@ -227,7 +222,7 @@ impl Machine {
                 put_accept(*port, &session_id(place, now), &reflected, out)
             }
             DeskAnswer::Refused(accept) => put_refusal(*accept, &reflected, out),
-            DeskAnswer::Done => put_refusal(NOT_SUPPORTED, &reflected, out),
+            DeskAnswer::Done => put_refusal(Accept::NotSupported.code(), &reflected, out),
         };
         Stepped {
             len,
@@ -239,7 +234,7 @@ impl Machine {
         ensures { Steps (start_row self.old) out.old out.new self.new result }
     {
         self.stage = Stage::Started;
-        let len = put_start_ack(OK, out);
+        let len = put_start_ack(Accept::Accepted.code(), out);
         Stepped {
             len,
             hang_up: false,

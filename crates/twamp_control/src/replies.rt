@@ -5,7 +5,8 @@ ghost use Rattle.control_msgs.specs.Layout.{accept_session, server_start, start_
 ghost use Rattle.twamp_control.specs.Table.{reflected, session_id, written_over};
 
 use control_msgs::{
-    octets_to_reflect, reflects_octets, write_accept, write_server_start, write_start_ack,
+    Accept, COMMAND_LEN, REQUEST_LEN, octets_to_reflect, reflects_octets, write_accept,
+    write_server_start, write_start_ack,
 };
 use octet_format::put;
 use refl_types::Place;
@@ -51,7 +52,7 @@ pub(crate) fn put_accept(
     ensures len { result ≡ length (accept_session 0 port sid.now reflected.now) }
     ensures short { result ≤ 48 }
 {
-    put_session(0, port, sid, reflected, out)
+    put_session(Accept::Accepted.code(), port, sid, reflected, out)
 }
 
 /// Writes the Accept-Session of a refusal, and says how long it is.
@@ -69,14 +70,14 @@ pub(crate) fn put_start_ack(accept: u8, out: &mut [u8; 64]) -> usize
     ensures len { result ≡ length (start_ack accept) }
     ensures short { result ≤ 48 }
 {
-    let mut reply = [0; 32];
+    let mut reply = [0; COMMAND_LEN];
     write_start_ack(accept, &mut reply);
     put(out, 0, &reply);
     reply.len()
 }
 
 /// The octets of a request that are given back in its Accept-Session (RFC 6038, section 3.3).
-pub(crate) fn reflected(mode: u32, octets: &[u8; 112]) -> [u8; 2]
+pub(crate) fn reflected(mode: u32, octets: &[u8; REQUEST_LEN]) -> [u8; 2]
     ensures { result ≡ reflected mode octets.now }
 {
     if reflects_octets(mode) {

@@ -4,7 +4,7 @@ ghost use Rattle.std.specs.Prelude.{◌≡◌};
 ghost use Rattle.twamp_control.specs.Connection.{is_hung_up};
 ghost use Rattle.twamp_control.specs.Table.{fits};
 
-use control_msgs::Request;
+use control_msgs::{REQUEST_LEN, Request};
 use refl_types::Place;
 
 /// A message of a client (RFC 5357, section 3).
@@ -13,7 +13,7 @@ pub enum Message {
     /// The Set-Up-Response, with the mode that the client has chosen. It is the first message.
     SetUp { mode: u32 },
     /// A Request-TW-Session, not read yet.
-    Request([u8; 112]),
+    Request([u8; REQUEST_LEN]),
     /// A Start-Sessions.
     Start,
     /// A Stop-Sessions, with its Number of Sessions.

@@ -5,5 +5,5 @@
 mod reading;
 mod writing;
 
-pub use reading::read_test;
+pub use reading::{TEST_LEN, read_test};
 pub use writing::{write_test, write_test_to};

@@ -6,8 +6,8 @@ ghost use Rattle.twamp_test.specs.Request.{read_of, IsTestRequest};
 use octet_format::{field2, field4, field8};
 use stamp_packet::{SenderBase, Short};
 
-/// Octets before the padding.
-const TEST_LEN: usize = 14;
+/// Octets before the padding of a request whose size isn't symmetrical.
+pub const TEST_LEN: usize = 14;
 
 /// Reads a request. It has no SSID, which is given as 0.
 #[tactic(auto, unfolding(crate::specs::Request::test_sender_of))]

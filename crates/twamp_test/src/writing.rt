@@ -2,18 +2,17 @@
 
 ghost use Rattle.std.specs.Prelude.{◌≡◌, ◌≤◌, ◌-◌, ◌++◌, length, take, drop, replicate};
 ghost use Rattle.std.specs.Int.{w32, to_be_bytes};
+ghost use Rattle.refl_types.specs.Limits.{datagram_limit};
 ghost use Rattle.twamp_test.specs.Request.{test_sender_of};
 ghost use Rattle.twamp_test.specs.Reply.{padding_at, reflected_len, reply_len, reply_padding, test_fields, test_reply};
 
+use crate::reading::TEST_LEN;
 use octet_format::{field2, field4, field8, put, put_array};
 use refl_types::Extra;
 use stamp_packet::ReplyBase;
 
 /// Octets before the padding of a reply.
 const FIELDS_LEN: usize = 41;
-
-/// Octets before the padding of a request whose size isn't symmetrical.
-const TEST_LEN: usize = 14;
 
 /// The greatest number of octets that are reflected: a reply has at most 65,507.
 const MAX_REFLECTED: usize = 65_466;
@@ -88,11 +87,11 @@ fn clear(out: &mut [u8], from: usize, to: usize)
 /// Writes the padding of the reply to a request behind its fields, and answers the reply's length. Later octets stay.
 #[inline(always)]
 fn write_padding(extra: &Extra, input: &[u8], out: &mut [u8]) -> usize
-    requires limit { length input.now ≤ 65507 }
+    requires limit { length input.now ≤ datagram_limit }
     requires room { 65536 ≤ length out.old }
     ensures len { result ≡ reply_len extra.now (length input.now) }
     ensures octets { out.new ≡ take 41 out.old ++ reply_padding extra.now input.now ++ drop result out.old }
-    ensures limit { result ≤ 65507 }
+    ensures limit { result ≤ datagram_limit }
 {
     let padding = reflected(extra, input);
     put(out, FIELDS_LEN, padding);
@@ -105,11 +104,11 @@ fn write_padding(extra: &Extra, input: &[u8], out: &mut [u8]) -> usize
 /// Writes the reply to a request and answers its length, which is at least the request's. Later octets stay.
 pub fn write_test(extra: &Extra, reply: &ReplyBase, input: &[u8], out: &mut [u8]) -> usize
     requires read { 14 ≤ length input.now }
-    requires limit { length input.now ≤ 65507 }
+    requires limit { length input.now ≤ datagram_limit }
     requires room { 65536 ≤ length out.old }
     ensures len { result ≡ reply_len extra.now (length input.now) }
     ensures octets { out.new ≡ test_reply extra.now reply.now input.now ++ drop result out.old }
-    ensures limit { result ≤ 65507 }
+    ensures limit { result ≤ datagram_limit }
 {
     let sender = &reply.sender;
     let sequence = sender.sequence.to_be_bytes();
@@ -122,11 +121,11 @@ pub fn write_test(extra: &Extra, reply: &ReplyBase, input: &[u8], out: &mut [u8]
 pub fn write_test_to(extra: &Extra, reply: &ReplyBase, input: &[u8], out: &mut [u8]) -> usize
     requires read { 14 ≤ length input.now }
     requires sender { reply.now.sender ≡ test_sender_of input.now }
-    requires limit { length input.now ≤ 65507 }
+    requires limit { length input.now ≤ datagram_limit }
     requires room { 65536 ≤ length out.old }
     ensures len { result ≡ reply_len extra.now (length input.now) }
     ensures octets { out.new ≡ test_reply extra.now reply.now input.now ++ drop result out.old }
-    ensures limit { result ≤ 65507 }
+    ensures limit { result ≤ datagram_limit }
 {
     let sequence = field4(input, 0);
     write_fields(reply, sequence, field8(input, 4), field2(input, 12), out);
