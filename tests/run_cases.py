@@ -12,9 +12,18 @@ from hex_text import octets
 SECONDS = 120
 
 
+def checked_cases(folder):
+    """A case a configuration file, whose first line tells what a check of it says."""
+    for file in sorted(folder.glob("*.toml")):
+        told = file.read_text().split("\n")[0].removeprefix("# ")
+        accepted = told.startswith("ok ")
+        line = told if accepted else f"stampd: configuration: {told}"
+        yield file.stem, ["check", str(file)], b"", f"{line}\n".encode(), 0 if accepted else 3
+
+
 def file_cases(folder):
     """A case a folder: input, output, status, and words where they are not just replay."""
-    for case in sorted(folder.iterdir()):
+    for case in sorted(each for each in folder.iterdir() if each.is_dir()):
         words = case / "words"
         yield (
             case.name,
@@ -59,7 +68,7 @@ def main():
         (name, guarded(run_file_case, program, *case))
         for folder in (here / "cases", here / "found")
         if folder.exists()
-        for name, *case in file_cases(folder)
+        for name, *case in [*file_cases(folder), *checked_cases(folder)]
     ]
     results += [(name, guarded(run, program)) for name, run in scripted.cases()]
     for name, wrong in results:

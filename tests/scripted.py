@@ -136,6 +136,196 @@ def other_spellings_give_the_usage(program):
     return None
 
 
+# ---- configuration files
+
+
+LOCALS = 'locals = ["192.0.2.10:862"]\n'
+SMALL = LOCALS + "[configs.edge]\n"
+ACCEPTED = b"ok locals 1 configs 1 sessions 0\n"
+
+
+def fault(told):
+    return b"stampd: configuration: " + told + b"\n", 3
+
+
+def accepted(configs, sessions):
+    return f"ok locals 1 configs {configs} sessions {sessions}\n".encode(), 0
+
+
+def check(program, words, **streams):
+    """What a check writes, and its status. Its input stays open, and is never written."""
+    process = start(program, ["check", *words], **streams)
+    out = process.stdout.read() if process.stdout else b""
+    return out, process.wait(timeout=SECONDS)
+
+
+def check_of(program, text):
+    """What a check of a file with this text writes, and its status."""
+    with tempfile.TemporaryDirectory() as folder:
+        file = pathlib.Path(folder) / "reflector.toml"
+        file.write_bytes(text if isinstance(text, bytes) else text.encode())
+        return check(program, [file])
+
+
+def checks(program, table):
+    """What is wrong with the first text of a table that isn't answered as wanted."""
+    for what, text, wanted in table:
+        found = check_of(program, text)
+        if found != wanted:
+            return f"{what}: {found[0][:80]!r} and status {found[1]}"
+    return None
+
+
+def sessions(count, config="edge"):
+    """As many sessions, each of its own peer."""
+    peers = (f"10.{n >> 16}.{n >> 8 & 255}.{n & 255}:5000" for n in range(count))
+    rows = ",\n".join(f'{{peer = "{peer}", config = "{config}"}}' for peer in peers)
+    return f"sessions = [\n{rows}\n]\n"
+
+
+def configurations(count):
+    """As many configurations, c0, c1 and so on, of which no two are equal."""
+    rows = (f"[configs.c{n}]\noffset = {n & 255}\nscale = {n >> 8}\n" for n in range(count))
+    return "".join(rows)
+
+
+@case
+def a_check_takes_one_word_that_begins_with_no_dash(program):
+    for words in (["check"], ["check", "-"], ["check", "-f"], ["check", "a", "b"], ["Check", "a"], ["check", b"\xff"]):
+        if wrong := usage(program, words):
+            return f"{words}: {wrong}"
+    return None
+
+
+@case
+def a_file_that_cannot_be_read_is_told(program):
+    with tempfile.TemporaryDirectory() as folder:
+        for what, word in (
+            ("an empty word", ""),
+            ("a folder", folder),
+            ("a file that is not there", f"{folder}/reflector.toml"),
+            ("a file within a file", "/dev/null/reflector.toml"),
+            ("a name of 300 letters", "a" * 300),
+            ("a name with a line end", f"{folder}/a\nb"),
+        ):
+            found = check(program, [word])
+            if found != (b"stampd: file failed\n", 5):
+                return f"{what}: {found[0][:80]!r} and status {found[1]}"
+    return None
+
+
+@case
+def a_file_has_any_name_and_place(program):
+    with tempfile.TemporaryDirectory() as folder:
+        (pathlib.Path(folder) / "configuration").write_text(SMALL)
+        for name in ("a b", "a\nb", "\u00e9", "replay", "x.-"):
+            (pathlib.Path(folder) / name).symlink_to("configuration")
+            found = check(program, [f"{folder}/{name}"])
+            if found != (ACCEPTED, 0):
+                return f"{name!r}: {found[0][:80]!r} and status {found[1]}"
+    return None
+
+
+@case
+def a_file_has_at_most_1048576_octets(program):
+    longest = SMALL.encode().ljust(1_048_575, b"#") + b"\n"
+    return checks(
+        program,
+        [
+            ("1,048,576 octets", longest, (ACCEPTED, 0)),
+            ("one octet more", longest + b"\n", (b"stampd: file too long\n", 5)),
+            ("one octet more, which is no text", longest + b"\xff", (b"stampd: file too long\n", 5)),
+        ],
+    )
+
+
+@case
+def a_file_without_end_is_too_long(program):
+    found = check(program, ["/dev/zero"])
+    return None if found == (b"stampd: file too long\n", 5) else f"{found[0][:80]!r} and status {found[1]}"
+
+
+@case
+def octets_that_are_no_text_are_no_toml(program):
+    return checks(
+        program,
+        [
+            ("an octet FF", SMALL.encode() + b"# \xff\n", fault(b"not toml")),
+            ("an octet 00", SMALL.encode() + b"# \x00\n", fault(b"not toml")),
+            ("a character that is cut", SMALL.encode() + b"# \xc3", fault(b"not toml")),
+            ("UTF-16", SMALL.encode("utf-16"), fault(b"not toml")),
+            ("an empty file", b"", fault(b"missing locals")),
+        ],
+    )
+
+
+@case
+def a_path_is_told_as_it_is(program):
+    return checks(
+        program,
+        [
+            ("a line end", '"a\\nb" = 1', fault(b"unknown a\nb")),
+            ("a line end as the whole key", '"\\n" = 1', fault(b"unknown \n")),
+            ("an octet 00", '"a\\u0000b" = 1', fault(b"unknown a\0b")),
+            ("an escape", '"\\u001b[2J" = 1', fault(b"unknown \x1b[2J")),
+            ("a letter of two octets", '"\u00e9" = 1', fault(b"unknown \xc3\xa9")),
+            ("quotes and blanks", "' \"x\" ' = 1", fault(b'unknown  "x" ')),
+            ("a line end below a session", f'sessions = [{{"a\\nb" = 1}}]\n{SMALL}', fault(b"unknown sessions.0.a\nb")),
+            ("1,000,000 letters", f"{'a' * 1_000_000} = 1", fault(b"unknown " + b"a" * 1_000_000)),
+        ],
+    )
+
+
+@case
+def counts_that_pass_their_limits_are_told(program):
+    most = 'slots = 16384\n' + sessions(16_384) + SMALL
+    return checks(
+        program,
+        [
+            ("256 configurations", LOCALS + configurations(256), accepted(256, 0)),
+            ("257", LOCALS + configurations(257), fault(b"limit configs")),
+            ("1,024 sessions", sessions(1_024) + SMALL, accepted(1, 1_024)),
+            ("a session more than slots where none are told", sessions(1_025) + SMALL, fault(b"limit sessions")),
+            ("16,384 sessions", most, accepted(1, 16_384)),
+            ("16,385 sessions", 'slots = 16384\nsessions = [' + "{}," * 16_385 + "]\n" + SMALL, fault(b"limit sessions")),
+        ],
+    )
+
+
+@case
+def there_are_64_rows_where_none_are_told(program):
+    def used(count):
+        rows = "".join(
+            f'[[sessions]]\npeer = "10.0.0.{n}:5000"\nconfig = "c{n}"\n' for n in range(count)
+        )
+        return LOCALS + configurations(count) + rows
+
+    return checks(
+        program, [("64", used(64), accepted(64, 64)), ("65", used(65), fault(b"limit rows"))]
+    )
+
+
+@case
+def a_fault_deep_in_a_long_file_has_its_place(program):
+    wrong = sessions(16_000).replace("10.0.62.127:5000", "10.0.62.126:5000")
+    table = [("a repeated peer", f"slots = 16384\n{wrong}{SMALL}", fault(b"bad sessions.15999"))]
+    return checks(program, table)
+
+
+@case
+def a_check_that_cannot_be_written_keeps_the_status_of_a_fault(program):
+    with tempfile.TemporaryDirectory() as folder:
+        for text, status in ((SMALL, 8), ("", 3), (None, 5)):
+            file = pathlib.Path(folder) / f"status{status}.toml"
+            if text is not None:
+                file.write_text(text)
+            with open("/dev/full", "wb") as full:
+                found = check(program, [file], stdout=full)
+            if found != (b"", status):
+                return f"status {found[1]} in place of {status}"
+    return None
+
+
 # ---- how octets come and go
 
 

@@ -1,5 +1,5 @@
 -- The places of a buffer.
-use Rattle.std.proofs.Common.{◌≡◌, ℕ, ◌+◌, ◌-◌, ◌<◌, ◌≤◌, List, [], ◌∷◌, ◌++◌, length, take, drop, get_or, sym, ap, ◌∙◌, arith}
+use Rattle.std.proofs.Common.{◌≡◌, ℕ, ◌+◌, ◌-◌, ◌<◌, ◌≤◌, List, [], ◌∷◌, ◌++◌, length, take, drop, get_or, refl, sym, ap, ◌∙◌, arith}
 use Rattle.std.proofs.lemmas.List.{drop-take, drop-drop, length-take}
 use Rattle.stampd.specs.Buffers.{between}
 
@@ -29,3 +29,10 @@ pub one_element : {A : Type 0} (ws : List A) (w : A) → 1 ≤ length ws → len
 one_element [] w some few e = absurd (omega arith)
 one_element (x ∷ []) w some few e = ap (λ y. y ∷ []) (sym e)
 one_element (x ∷ y ∷ ws) w some few e = absurd (omega arith)
+
+-- a list of two
+pub two_elements : {A : Type 0} (ws : List A) (v w : A) → 2 ≤ length ws → length ws < 3 → v ≡ get_or ws 0 v → w ≡ get_or ws 1 w → ws ≡ v ∷ w ∷ []
+two_elements [] v w some few e f = absurd (omega arith)
+two_elements (x ∷ []) v w some few e f = absurd (omega arith)
+two_elements (x ∷ y ∷ []) v w some few e f = rw (e, f) refl
+two_elements (x ∷ y ∷ z ∷ ws) v w some few e f = absurd (omega arith)

@@ -6,9 +6,10 @@ mod outbox;
 mod read_ahead;
 #[cfg(test)]
 mod tests;
+mod words;
 
 use offline::offline;
-use port_io::{StdSink, StdSource};
+use port_io::{DiskFiles, StdSink, StdSource};
 use std::process::ExitCode;
 use std::{env, io};
 
@@ -32,5 +33,8 @@ fn main(rt: HostRuntime) -> ExitCode {
     let Ok(mut out) = StdSink::make(rt, alloc) else {
         return ExitCode::from(4);
     };
-    ExitCode::from(offline(alloc, &words, &mut input, &mut out))
+    let Ok(mut files) = DiskFiles::make(rt, alloc) else {
+        return ExitCode::from(4);
+    };
+    ExitCode::from(offline(alloc, &words, &mut input, &mut out, &mut files))
 }

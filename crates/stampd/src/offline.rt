@@ -1,17 +1,23 @@
 //! The commands that wait for nobody.
 
-ghost use Rattle.std.specs.Prelude.{ℕ, ◌≡◌, ◌≢◌, ◌⊎◌, ◌≤◌, ◌++◌, List, Some, IfSome, IsTrue, map, string_bytes};
+ghost use Rattle.std.specs.Prelude.{ℕ, ◌≡◌, ◌≢◌, ◌⊎◌, ◌≤◌, ◌++◌, List, Some, IfSome, map, string_bytes};
 ghost use Rattle.std.specs.Io.KnownBytes.{Appends, Keeps};
 ghost use Rattle.replay_format.specs.Records.{Item};
 ghost use Rattle.replay_format.specs.Answers.{Left, answer_octets};
 ghost use Rattle.stampd.specs.Buffers.{due};
 ghost use Rattle.port_io.specs.Outside.{Rises, AppendsFront};
-ghost use Rattle.stampd.specs.Command.{IsReplay, IsUsage};
+ghost use Rattle.port_io.specs.Files as port;
+ghost use Rattle.port_io.specs.Files.{content};
+ghost use Rattle.conf_check.specs.Telling.{IsTold};
+ghost use Rattle.conf_check.specs.Checking.{WasAccepted, WasCutShort, WasFaulty, WasNotLoaded, content_status};
+ghost use Rattle.stampd.specs.Command.{IsReplay, IsCheck, IsCommand, usage};
 ghost use Rattle.stampd.specs.Replay.{IsStream, IsNoStream, IsDone, HasLeft, WasCutOff, WasStopped, IsUntouched};
 
 use crate::outbox::{Outbox, Taken};
 use crate::read_ahead::ReadAhead;
-use port_io::{Sink, Source, write_all};
+use crate::words::{file_to_check, is_replay};
+use conf_check::{check_file, tell};
+use port_io::{Files, Sink, Source};
 use replay_table::Sessions;
 use std::alloc::Global;
 
@@ -106,73 +112,76 @@ pub fn replay<S: Source, K: Sink>(alloc: Global, input: &mut S, out: &mut K) -> 
     }
 }
 
-/// Whether the words are just `replay`.
-fn is_replay(words: &[String]) -> bool
-    ensures yes { IsTrue result → IsReplay (map string_bytes words.now) }
-    ensures no { IsReplay (map string_bytes words.now) → IsTrue result }
-{
-    match words {
-        [word] => word.as_str() == "replay",
-        _ => false,
-    }
-}
-
-/// Says that the words are no command. Where that can't be written, the status is the same.
-fn refuse<K: Sink>(out: &mut K) -> u8
-    ensures status { result ≡ 2 }
-    ensures usage { IsUsage (K.written out.old) (K.written out.new) (K.faults out.old) (K.faults out.new) }
-{
-    match write_all(out, USAGE) {
-        Ok(()) | Err(_) => 2,
-    }
-}
-
 /// The line that is written where the words are no command.
 const USAGE: &[u8] = b"stampd: usage\n";
 
-/// Runs the command that the words name, and gives the status with which the program ends: 0 where all records of the
-/// input were answered, 2 where the words are no command, 4 for want of memory, 6 where the input left its grammar, 7
-/// where a read failed and 8 where a write failed.
-pub fn offline<S: Source, K: Sink>(
+/// Runs the command that the words name, and gives the status with which the program ends.
+///
+/// `replay` answers the records of the input: 0 where all were answered, 6 where the input left its grammar, 7 where a read
+/// failed. `check FILE` says what a configuration file has: 0 where it is accepted, 3 where its text has a fault, 5 where it
+/// wasn't loaded. Both end with 4 for want of memory and with 8 where a write failed. Other words are no command, for which
+/// the status is 2.
+pub fn offline<S: Source, K: Sink, F: Files>(
     alloc: Global,
     words: &[String],
     input: &mut S,
     out: &mut K,
+    files: &mut F,
 ) -> u8
-    ensures statuses { (result ≡ 0) ⊎ (result ≡ 2) ⊎ (result ≡ 4) ⊎ (result ≡ 6) ⊎ (result ≡ 7) ⊎ (result ≡ 8) }
+    ensures statuses { (result ≡ 0) ⊎ (result ≡ 2) ⊎ (result ≡ 3) ⊎ (result ≡ 4) ⊎ (result ≡ 5) ⊎ (result ≡ 6) ⊎ (result ≡ 7) ⊎ (result ≡ 8) }
 
-    // The words are no command: the input is untouched.
-    ensures usage { result ≡ 2 → (IsReplay (map string_bytes words.now) → ⊥)
-        × Keeps (S.left input.old) (S.left input.new)
-        × IsUsage (K.written out.old) (K.written out.new) (K.faults out.old) (K.faults out.new) }
-    ensures command { result ≢ 2 → IsReplay (map string_bytes words.now) }
+    // The words are no command.
+    ensures usage { result ≡ 2 → (IsCommand (map string_bytes words.now) → ⊥)
+        × IsTold usage (K.written out.old) (K.written out.new) (K.faults out.old) (K.faults out.new) }
+    ensures command { result ≢ 2 → IsCommand (map string_bytes words.now) }
 
-    // All that the source held is records, and just their answers were written.
-    ensures done { result ≡ 0 → IsDone (S.left input.old) (S.left input.new) (K.written out.old) (K.written out.new) }
+    // Only `replay` reads the input, and no command changes a file.
+    ensures unread { (IsReplay (map string_bytes words.now) → ⊥) → Keeps (S.left input.old) (S.left input.new) }
+    ensures kept { F.files files.new ≡ F.files files.old }
+
+    // All that the source held is records, and just their answers were written, or the file is accepted.
+    ensures done { result ≡ 0 → (IsReplay (map string_bytes words.now) × IsDone (S.left input.old) (S.left input.new) (K.written out.old) (K.written out.new))
+        ⊎ ((name : List ℕ) × IsCheck name (map string_bytes words.now) × WasAccepted (F.files files.old) name (K.written out.old) (K.written out.new)) }
     ensures memory { result ≡ 4 → IsUntouched (S.left input.old) (S.left input.new) (K.written out.old) (K.written out.new) }
 
+    // The text of the file has a fault, and the first is told.
+    ensures faulty { result ≡ 3 → (name : List ℕ) × IsCheck name (map string_bytes words.now)
+        × WasFaulty (F.files files.old) name (K.written out.old) (K.written out.new) (K.faults out.old) (K.faults out.new) }
+
+    // The file can't be loaded, or it is too long.
+    ensures not_loaded { result ≡ 5 → (name : List ℕ) × IsCheck name (map string_bytes words.now)
+        × WasNotLoaded (F.files files.old) name (F.faults files.old) (F.faults files.new) (K.written out.old) (K.written out.new) (K.faults out.old) (K.faults out.new) }
+    ensures no_load_fault { result ≢ 5 → F.faults files.new ≡ F.faults files.old }
+
     // The stream left its grammar: all records before are answered, and then its offset is written.
-    ensures grammar { result ≡ 6 → HasLeft (S.left input.old) (S.left input.new) (K.written out.old) (K.written out.new) }
+    ensures grammar { result ≡ 6 → IsReplay (map string_bytes words.now) × HasLeft (S.left input.old) (S.left input.new) (K.written out.old) (K.written out.new) }
     ensures no_stream { result ≡ 6 → IfSome (S.left input.old) IsNoStream }
 
     // A read failed: all whole records that were read are answered.
-    ensures input { result ≡ 7 → WasCutOff (S.left input.old) (S.left input.new) (K.written out.old) (K.written out.new) }
+    ensures input { result ≡ 7 → IsReplay (map string_bytes words.now) × WasCutOff (S.left input.old) (S.left input.new) (K.written out.old) (K.written out.new) }
     ensures read_fault { result ≡ 7 → Rises (S.faults input.old) (S.faults input.new) }
     ensures no_read_fault { result ≢ 7 → S.faults input.new ≡ S.faults input.old }
 
     // A write failed: a front of what was due was written.
-    ensures output { result ≡ 8 → WasStopped (S.left input.old) (S.left input.new) (K.written out.old) (K.written out.new) }
+    ensures output { result ≡ 8 → (IsReplay (map string_bytes words.now) × WasStopped (S.left input.old) (S.left input.new) (K.written out.old) (K.written out.new))
+        ⊎ ((name : List ℕ) × IsCheck name (map string_bytes words.now) × WasCutShort (F.files files.old) name (K.written out.old) (K.written out.new)) }
     ensures write_fault { result ≡ 8 → Rises (K.faults out.old) (K.faults out.new) }
-    ensures no_write_fault { result ≢ 8 → result ≢ 2 → K.faults out.new ≡ K.faults out.old }
+    ensures no_write_fault { (result ≡ 0) ⊎ (result ≡ 4) ⊎ (result ≡ 6) ⊎ (result ≡ 7) → K.faults out.new ≡ K.faults out.old }
 
-    // Where nothing fails, a stream is answered, and what is none is told so.
+    // Where nothing fails, a stream is answered, what is none is told so, and of a file its content alone decides.
     ensures complete { (octets : List ℕ) (records : List Item) → S.left input.old ≡ Some octets → IsStream octets records → IsReplay (map string_bytes words.now)
         → (Rises (S.faults input.old) (S.faults input.new) → ⊥) → (Rises (K.faults out.old) (K.faults out.new) → ⊥) → (result ≡ 0) ⊎ (result ≡ 4) }
     ensures refused { (octets : List ℕ) → S.left input.old ≡ Some octets → IsNoStream octets → IsReplay (map string_bytes words.now)
         → (Rises (S.faults input.old) (S.faults input.new) → ⊥) → (Rises (K.faults out.old) (K.faults out.new) → ⊥) → (result ≡ 6) ⊎ (result ≡ 4) }
+    ensures checked { (fs : List port.File) (name text : List ℕ) → F.files files.old ≡ Some fs → content name fs ≡ Some text → IsCheck name (map string_bytes words.now)
+        → (Rises (F.faults files.old) (F.faults files.new) → ⊥) → (Rises (K.faults out.old) (K.faults out.new) → ⊥) → (result ≡ content_status text) ⊎ (result ≡ 4) }
 {
     if !is_replay(words) {
-        return refuse(out);
+        let Some(name) = file_to_check(words) else {
+            tell(out, USAGE);
+            return 2;
+        };
+        return check_file(alloc, name, files, out);
     }
     match replay(alloc, input, out) {
         ReplayEnd::Done => 0,

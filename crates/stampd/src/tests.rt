@@ -3,7 +3,7 @@
 ghost use Rattle.std.specs.Prelude.{None};
 
 use crate::offline::offline;
-use port_io::{Failed, MemSink, MemSource, Source};
+use port_io::{Failed, MemFiles, MemSink, MemSource, Source};
 use std::alloc::{AllocError, Global};
 use std::test::Fail;
 
@@ -61,10 +61,24 @@ fn calls(alloc: Global, failing: u64) -> Result<Vec<u64>, AllocError> {
     Ok(numbers)
 }
 
-fn words(alloc: Global) -> Result<Vec<String>, AllocError> {
+fn words(alloc: Global, texts: &[&str]) -> Result<Vec<String>, AllocError> {
     let mut words = Vec::new(alloc);
-    words.push(String::from_str(alloc, "replay")?)?;
+    for text in texts {
+        words.push(String::from_str(alloc, text)?)?;
+    }
     Ok(words)
+}
+
+/// No file at all.
+fn no_files(alloc: Global) -> Result<MemFiles, Fail> {
+    Ok(MemFiles::make(alloc, Vec::new(alloc), Vec::new(alloc), Vec::new(alloc))?)
+}
+
+/// A file with this name and text.
+fn one_file(alloc: Global, name: &str, text: &str) -> Result<MemFiles, Fail> {
+    let mut contents = Vec::new(alloc);
+    contents.push(Vec::from_slice(alloc, text.as_bytes())?)?;
+    Ok(MemFiles::make(alloc, words(alloc, &[name])?, contents, Vec::new(alloc))?)
 }
 
 #[test]
@@ -72,7 +86,15 @@ fn one_datagram_is_answered_where_memory_is_ample(rt: HostRuntime) -> Result<(),
     let alloc = rt.alloc();
     let mut input = MemSource::make(alloc, stream(alloc, 1)?, Vec::new(alloc))?;
     let mut out = MemSink::make(alloc, 1000, Vec::new(alloc))?;
-    assert_eq!(rt; offline(alloc, &words(alloc)?, &mut input, &mut out), 0);
+    let mut files = no_files(alloc)?;
+    let status = offline(
+        alloc,
+        &words(alloc, &["replay"])?,
+        &mut input,
+        &mut out,
+        &mut files,
+    );
+    assert_eq!(rt; status, 0);
     assert_eq!(rt; out.written(), ANSWERS.as_slice());
     Ok(())
 }
@@ -95,7 +117,9 @@ fn each_failing_read_is_told_behind_the_answers_to_whole_records(
         let source = MemSource::make(alloc, stream(alloc, 3)?, calls(alloc, failing)?)?;
         let mut input = Trickle { source, piece: 50 };
         let mut out = MemSink::make(alloc, 1000, Vec::new(alloc))?;
-        let status = offline(alloc, &words(alloc)?, &mut input, &mut out);
+        let mut files = no_files(alloc)?;
+        let replay = words(alloc, &["replay"])?;
+        let status = offline(alloc, &replay, &mut input, &mut out, &mut files);
         assert_eq!(rt; status, 7, "read {failing}");
         assert_eq!(rt; out.written().len(), answered, "read {failing}");
     }
@@ -121,9 +145,41 @@ fn each_failing_write_is_told_and_leaves_a_front_of_the_answers(
         let source = MemSource::make(alloc, stream(alloc, 7)?, Vec::new(alloc))?;
         let mut input = Trickle { source, piece: 50 };
         let mut out = MemSink::make(alloc, 1000, calls(alloc, failing)?)?;
-        let got = offline(alloc, &words(alloc)?, &mut input, &mut out);
+        let mut files = no_files(alloc)?;
+        let replay = words(alloc, &["replay"])?;
+        let got = offline(alloc, &replay, &mut input, &mut out, &mut files);
         assert_eq!(rt; got, status, "write {failing}");
         assert_eq!(rt; out.written().len(), written, "write {failing}");
+    }
+    Ok(())
+}
+
+#[test]
+fn the_words_decide_what_is_done(rt: HostRuntime) -> Result<(), Fail> {
+    let alloc = rt.alloc();
+    let text = "locals = [\"192.0.2.10:862\"]\n[configs.edge]\n";
+    for (texts, status, written) in [
+        (
+            ["check", "reflector.toml"].as_slice(),
+            0,
+            b"ok locals 1 configs 1 sessions 0\n".as_slice(),
+        ),
+        (&["check", ""], 5, b"stampd: file failed\n"),
+        (&["check"], 2, b"stampd: usage\n"),
+        (&["check", "-reflector.toml"], 2, b"stampd: usage\n"),
+        (&["check", "reflector.toml", ""], 2, b"stampd: usage\n"),
+        (&["reflector.toml", "check"], 2, b"stampd: usage\n"),
+        (&["run", "reflector.toml"], 2, b"stampd: usage\n"),
+        (&["replay", "reflector.toml"], 2, b"stampd: usage\n"),
+        (&["replay"], 0, b""),
+    ] {
+        let mut input = MemSource::make(alloc, Vec::new(alloc), Vec::new(alloc))?;
+        let mut out = MemSink::make(alloc, 100, Vec::new(alloc))?;
+        let mut files = one_file(alloc, "reflector.toml", text)?;
+        let words = words(alloc, texts)?;
+        let got = offline(alloc, &words, &mut input, &mut out, &mut files);
+        assert_eq!(rt; got, status, "of {texts:?}");
+        assert_eq!(rt; out.written(), written, "of {texts:?}");
     }
     Ok(())
 }

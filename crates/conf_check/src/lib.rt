@@ -1,0 +1,14 @@
+//! A configuration file by its name: what is told of its text, or that it can't be loaded. It is this project's own.
+#![tactic(auto)]
+
+mod checking;
+mod lines;
+mod loading;
+mod telling;
+
+pub use checking::check_file;
+pub use loading::{Refusal, load_conf};
+pub use telling::{tell, tell_refusal};
+
+#[cfg(test)]
+mod tests;

@@ -1,0 +1,31 @@
+//! The words of the command line.
+
+ghost use Rattle.std.specs.Prelude.{ℕ, ◌≡◌, List, IsTrue, MatchOption, map, string_bytes};
+ghost use Rattle.stampd.specs.Command.{IsReplay, IsCheck};
+
+/// Whether the words are just `replay`.
+pub fn is_replay(words: &[String]) -> bool
+    ensures yes { IsTrue result → IsReplay (map string_bytes words.now) }
+    ensures no { IsReplay (map string_bytes words.now) → IsTrue result }
+{
+    match words {
+        [word] => word.as_str() == "replay",
+        _ => false,
+    }
+}
+
+/// The file of `check FILE`, where the words are that.
+pub fn file_to_check(words: &[String]) -> Option<&str>
+    ensures { MatchOption result ((name : List ℕ) → IsCheck name (map string_bytes words.now) → ⊥) (λ name. IsCheck name.now (map string_bytes words.now)) }
+{
+    match words {
+        [word, name] => {
+            if word.as_str() == "check" && !name.as_bytes().starts_with(b"-") {
+                Some(name)
+            } else {
+                None
+            }
+        }
+        _ => None,
+    }
+}
