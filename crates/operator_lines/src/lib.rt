@@ -9,6 +9,9 @@ mod writing;
 
 pub use answer::{Answer, Refusal};
 pub use laws::law_lines;
-pub use line::{Line, LineFault};
+pub use line::{LINE_MAX, Line, LineFault};
 pub use reading::read_line;
 pub use writing::write_answer;
+
+#[cfg(test)]
+mod tests;

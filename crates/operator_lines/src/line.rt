@@ -3,6 +3,9 @@
 use refl_types::Key;
 use text_forms::Name;
 
+/// How many octets a line has at most, with its end; and an answer too.
+pub const LINE_MAX: usize = 512;
+
 /// A line of an operator.
 #[derive(Clone, Copy, Debug, PartialEq, Eq)]
 pub enum Line {

@@ -6,6 +6,7 @@ ghost use Rattle.operator_lines.specs.Lines as lines;
 ghost use Rattle.operator_lines.specs.Answers.{refusal_word, counts_text, answer_text};
 
 use crate::answer::{Answer, Refusal};
+use crate::line::LINE_MAX;
 use itoa::Buffer;
 use octet_format::put;
 use refl_types::{Endpoint, Key, Mode};
@@ -116,7 +117,7 @@ fn append_counts(out: &mut [u8], at: usize, refusal: &Refusal) -> usize
 /// Writes an answer to the front of a buffer, and answers how many octets it has with its end. The other octets of the
 /// buffer are undefined after it.
 #[tactic(auto, unfolding(crate::specs::Answers::answer_text))]
-pub fn write_answer(answer: &Answer, out: &mut [u8; 512]) -> usize
+pub fn write_answer(answer: &Answer, out: &mut [u8; LINE_MAX]) -> usize
     ensures text { take result out.new ≡ answer_text answer.now }
     ensures len { result ≡ length (answer_text answer.now) }
     ensures short { result ≤ 512 }
