@@ -1,6 +1,6 @@
 //! Configurations that are kept by row, so that the words of a row are loaded, and its HMAC key hashed, once.
 
-ghost use Rattle.std.specs.Prelude.{◌≡◌, ℕ, ◌<◌, ◌%◌, true, false, IfOk};
+ghost use Rattle.std.specs.Prelude.{◌≡◌, ℕ, ◌<◌, true, false, IfOk};
 ghost use Rattle.session_world.specs.Keys.{ConfigParts};
 ghost use Rattle.session_world.specs.Loads.{names_open};
 ghost use Rattle.session_rule.specs.Seats.{size_of, IsWorkerOf, IsWorkerOfOneSchedule, worker_number, worker_steps};
@@ -58,8 +58,8 @@ impl KnownRows {
     pub fn forget(&mut self)
         ensures { KeepsNothing self.new }
     {
-        for place in 0..PLACES {
-            self.rows[place] = None;
+        for place in self.rows.iter_mut() {
+            *place = None;
         }
     }
 
