@@ -1,0 +1,9 @@
+pub mod BoolFacts
+pub mod Comes
+pub mod Words
+pub mod RowsRead
+pub mod Looks
+pub mod Walking
+pub mod Visited
+pub mod Sessions
+pub mod Known
