@@ -9,6 +9,8 @@ mod receive_buffer;
 mod sockets;
 mod stream;
 mod tcp_desk;
+#[cfg(test)]
+mod tests;
 mod udp_port;
 
 pub use ends::Ends;
