@@ -1,6 +1,6 @@
 -- The integrity of a tail. Which octets the HMAC TLV covers, where it may stand and when it must be there is this
 -- project's reading of RFC 8972, section 4.8.
-use Rattle.std.specs.Prelude.{ℕ, ◌+◌, ◌≤◌, IsSome, Bool, true, false, ◌==◌, ◌&&◌, nat_eq, if◌then◌else◌, List, ◌++◌, length, take, Option, Some, None, option_to_list}
+use Rattle.std.specs.Prelude.{ℕ, ◌+◌, ◌≤◌, IsSome, Bool, true, ◌==◌, ◌&&◌, nat_eq, if◌then◌else◌, List, ◌++◌, length, take, Option, Some, None, option_to_list}
 use Rattle.std.specs.Cmp.Lexicographic.{pointwise}
 use Rattle.hmac_sha256.specs.Hmac.{mac128_of}
 use Rattle.refl_types.specs.declared.types.Mode.{Mode}
