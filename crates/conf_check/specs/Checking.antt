@@ -7,7 +7,7 @@ use Rattle.conf_text.specs.Faults.{Fault}
 use Rattle.conf_text.specs.File.{File, file_in}
 use Rattle.conf_check.specs.Lines.{accepted_line, fault_line, failed_line, too_long_line}
 use Rattle.conf_check.specs.Loading.{file_limit, IsTooLong, IsAccepted, IsFaulty}
-use Rattle.conf_check.specs.Telling.{IsTold}
+use Rattle.conf_check.specs.Writing.{WritesLine}
 
 -- 0: the file is accepted, and its line was written
 abbrev pub WasAccepted : Option (List port.File) → List ℕ → Option (List ℕ) → Option (List ℕ) → Type 0
@@ -19,13 +19,13 @@ WasCutShort files name written written' = (f : File) × IsAccepted files name f 
 
 -- 3: the file has a fault, and the first is told
 abbrev pub WasFaulty : Option (List port.File) → List ℕ → Option (List ℕ) → Option (List ℕ) → ℕ → ℕ → Type 0
-WasFaulty files name written written' faults faults' = (fault : Fault) × IsFaulty files name fault × IsTold (fault_line fault) written written' faults faults'
+WasFaulty files name written written' faults faults' = (fault : Fault) × IsFaulty files name fault × WritesLine (fault_line fault) written written' faults faults'
 
 -- 5: the load failed, and the files counted it, or the file is too long; which of the two is told
 abbrev pub WasNotLoaded : Option (List port.File) → List ℕ → ℕ → ℕ → Option (List ℕ) → Option (List ℕ) → ℕ → ℕ → Type 0
 WasNotLoaded files name failed failed' written written' faults faults' =
-    (Rises failed failed' × IsTold failed_line written written' faults faults')
-    ⊎ (IsTooLong files name × (failed' ≡ failed) × IsTold too_long_line written written' faults faults')
+    (Rises failed failed' × WritesLine failed_line written written' faults faults')
+    ⊎ (IsTooLong files name × (failed' ≡ failed) × WritesLine too_long_line written written' faults faults')
 
 -- the status for a text that was read, and for a content, which may be too long to be read
 abbrev pub read_status : Result File Fault → ℕ

@@ -1,4 +1,4 @@
 pub mod Lines
 pub mod Loading
-pub mod Telling
+pub mod Writing
 pub mod Checking

@@ -9,7 +9,7 @@ ghost use Rattle.conf_check.specs.Checking.{WasAccepted, WasCutShort, WasFaulty,
 
 use crate::lines::accepted_line;
 use crate::loading::load_conf;
-use crate::telling::tell_refusal;
+use crate::writing::write_refusal;
 use port_io::{Files, Sink, write_all};
 use std::alloc::Global;
 
@@ -35,7 +35,7 @@ pub fn check_file<F: Files, K: Sink>(alloc: Global, name: &str, files: &mut F, o
 {
     let conf = match load_conf(alloc, files, name) {
         Ok(conf) => conf,
-        Err(refusal) => return tell_refusal(alloc, &refusal, out),
+        Err(refusal) => return write_refusal(alloc, &refusal, out),
     };
     let Ok(line) = accepted_line(alloc, &conf) else {
         return 4;

@@ -4,11 +4,11 @@
 mod checking;
 mod lines;
 mod loading;
-mod telling;
+mod writing;
 
 pub use checking::check_file;
 pub use loading::{Refusal, load_conf};
-pub use telling::{tell, tell_refusal};
+pub use writing::{write_line, write_refusal};
 
 #[cfg(test)]
 mod tests;

@@ -8,7 +8,7 @@ ghost use Rattle.stampd.specs.Buffers.{due};
 ghost use Rattle.port_io.specs.Outside.{Rises, AppendsFront};
 ghost use Rattle.port_io.specs.Files as port;
 ghost use Rattle.port_io.specs.Files.{content};
-ghost use Rattle.conf_check.specs.Telling.{IsTold};
+ghost use Rattle.conf_check.specs.Writing.{WritesLine};
 ghost use Rattle.conf_check.specs.Checking.{WasAccepted, WasCutShort, WasFaulty, WasNotLoaded, content_status};
 ghost use Rattle.stampd.specs.Command.{IsReplay, IsCheck, IsCommand, usage};
 ghost use Rattle.stampd.specs.Replay.{IsStream, IsNoStream, IsDone, HasLeft, WasCutOff, WasStopped, IsUntouched};
@@ -16,7 +16,7 @@ ghost use Rattle.stampd.specs.Replay.{IsStream, IsNoStream, IsDone, HasLeft, Was
 use crate::outbox::{Outbox, Taken};
 use crate::read_ahead::ReadAhead;
 use crate::words::{file_to_check, is_replay};
-use conf_check::{check_file, tell};
+use conf_check::{check_file, write_line};
 use port_io::{Files, Sink, Source};
 use replay_table::Sessions;
 use std::alloc::Global;
@@ -132,7 +132,7 @@ pub fn offline<S: Source, K: Sink, F: Files>(
 
     // The words are no command.
     ensures usage { result ≡ 2 → (IsCommand (map string_bytes words.now) → ⊥)
-        × IsTold usage (K.written out.old) (K.written out.new) (K.faults out.old) (K.faults out.new) }
+        × WritesLine usage (K.written out.old) (K.written out.new) (K.faults out.old) (K.faults out.new) }
     ensures command { result ≢ 2 → IsCommand (map string_bytes words.now) }
 
     // Only `replay` reads the input, and no command changes a file.
@@ -178,7 +178,7 @@ pub fn offline<S: Source, K: Sink, F: Files>(
 {
     if !is_replay(words) {
         let Some(name) = file_to_check(words) else {
-            tell(out, USAGE);
+            write_line(out, USAGE);
             return 2;
         };
         return check_file(alloc, name, files, out);

@@ -1,6 +1,6 @@
 //! What is told to whoever started the program, and the statuses of a file that isn't taken.
 
-ghost use Rattle.conf_check.specs.Telling.{IsTold, TellsRefusal};
+ghost use Rattle.conf_check.specs.Writing.{WritesLine, WritesRefusal};
 ghost use Rattle.conf_check.specs.declared.loading.Refusal.TheVariants.{Faulty};
 
 use crate::lines::fault_line;
@@ -10,19 +10,19 @@ use port_io::{Sink, write_all};
 use std::alloc::Global;
 
 /// Writes a line. Where a write fails, the rest of the line is dropped.
-pub fn tell<K: Sink>(out: &mut K, line: &[u8])
-    ensures { IsTold line.now (K.written out.old) (K.written out.new) (K.faults out.old) (K.faults out.new) }
+pub fn write_line<K: Sink>(out: &mut K, line: &[u8])
+    ensures { WritesLine line.now (K.written out.old) (K.written out.new) (K.faults out.old) (K.faults out.new) }
 {
     let _written = write_all(out, line);
 }
 
 /// Tells the fault of a text, and gives the status.
-fn tell_fault<K: Sink>(alloc: Global, fault: &ConfFault, out: &mut K) -> u8
-    ensures { TellsRefusal (Faulty fault.now) result (K.written out.old) (K.written out.new) (K.faults out.old) (K.faults out.new) }
+fn write_fault_line<K: Sink>(alloc: Global, fault: &ConfFault, out: &mut K) -> u8
+    ensures { WritesRefusal (Faulty fault.now) result (K.written out.old) (K.written out.new) (K.faults out.old) (K.faults out.new) }
 {
     match fault_line(alloc, fault) {
         Ok(line) => {
-            tell(out, line.as_bytes());
+            write_line(out, line.as_bytes());
             3
         }
         Err(_) => 4,
@@ -31,19 +31,19 @@ fn tell_fault<K: Sink>(alloc: Global, fault: &ConfFault, out: &mut K) -> u8
 
 /// Tells why a file isn't taken, and gives the status with which the program ends: 3 for a fault of the text, 4 for want of
 /// memory, of which nothing is told, and 5 where the file wasn't loaded.
-pub fn tell_refusal<K: Sink>(alloc: Global, refusal: &Refusal, out: &mut K) -> u8
-    ensures { TellsRefusal refusal.now result (K.written out.old) (K.written out.new) (K.faults out.old) (K.faults out.new) }
+pub fn write_refusal<K: Sink>(alloc: Global, refusal: &Refusal, out: &mut K) -> u8
+    ensures { WritesRefusal refusal.now result (K.written out.old) (K.written out.new) (K.faults out.old) (K.faults out.new) }
 {
     match refusal {
         Refusal::Failed => {
-            tell(out, FAILED);
+            write_line(out, FAILED);
             5
         }
         Refusal::TooLong => {
-            tell(out, TOO_LONG);
+            write_line(out, TOO_LONG);
             5
         }
-        Refusal::Faulty(fault) => tell_fault(alloc, fault, out),
+        Refusal::Faulty(fault) => write_fault_line(alloc, fault, out),
     }
 }
 
