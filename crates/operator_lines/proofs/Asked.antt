@@ -1,21 +1,18 @@
 -- Each line that is read is spelled so, and each spelling is read.
-use Rattle.std.proofs.Common.{◌≡◌, ℕ, ◌^◌, ◌<◌, ◌≤◌, ◌*◌, Bool, true, false, cond, List, [], ◌∷◌, ◌++◌, length, Some, None, Ok, Err, Result, decimal, codes, bytes_eq, refl, ap, sym, subst, ◌∙◌, arith, append_assoc, eqb}
+use Rattle.std.proofs.Common.{◌≡◌, ℕ, true, List, [], ◌∷◌, ◌++◌, length, Some, None, Ok, Err, Result, decimal, codes, bytes_eq, refl, ap, sym, subst, ◌∙◌, arith, append_assoc, eqb}
 use Rattle.std.proofs.lemmas.Bool.{eqb-true}
 use Rattle.std.proofs.lemmas.Slice.Eq.{bytes_eq-Decides}
-use Rattle.std.proofs.lemmas.Bool.Decides.{nat_tests}
 use Rattle.hex.specs.declared.error.FromHexError.{FromHexError}
 use Rattle.hex.specs.Hex.{decode_sized}
-use Rattle.refl_types.specs.declared.types.Key.{Key}
 use Rattle.text_forms.specs.Numbers.{number_from}
 use Rattle.text_forms.specs.Names.{is_name, name_from}
 use Rattle.text_forms.specs.Endpoints.{cut}
 use Rattle.operator_lines.specs.declared.line.Line.{Line}
-use Rattle.operator_lines.specs.declared.line.Line.TheVariants as lines
-use Rattle.operator_lines.specs.Lines.{key_text, IsNamable, IsName, Spells, longest_wait, nanoseconds, AreWords, IsLine}
+use Rattle.operator_lines.specs.Lines.{key_text, IsName, Spells, longest_wait, AreWords, IsLine}
 use Rattle.operator_lines.specs.Reading.{space, line_end, decoded, octets_from, key_from, key_at, config_from, open_from, set_from, close_from, count_from, asked, words_from, body_of, line_from}
-use Rattle.operator_lines.proofs.Binds.{bind-some, bind-is, some-is, by-test}
-use Rattle.operator_lines.proofs.Above.{AreAbove, above-append, above-lower, cut-word, word-cut, above-decimal}
-use Rattle.operator_lines.proofs.Spelled.{Texts, key-read, key-written, key_at-read, key_at-written}
+use Rattle.operator_lines.proofs.Binds.{bind-some, some-is, by-test}
+use Rattle.operator_lines.proofs.Above.{word-cut}
+use Rattle.operator_lines.proofs.Spelled.{Texts, key-read, key_at-read}
 
 -- ---- names and hexadecimal octets
 

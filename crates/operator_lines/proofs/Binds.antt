@@ -1,5 +1,5 @@
 -- Two readings, one after the other; and a choice by a test.
-use Rattle.std.proofs.Common.{◌≡◌, Bool, true, false, cond, Option, Some, None, refl, ap}
+use Rattle.std.proofs.Common.{◌≡◌, Bool, true, false, cond, Option, Some, None, refl}
 use Rattle.text_forms.specs.Steps.{◌>>=◌}
 
 -- where both have read, the first has

@@ -1,5 +1,5 @@
 -- No line is longer than the limit.
-use Rattle.std.proofs.Common.{◌≡◌, ℕ, suc, ◌+◌, ◌*◌, ◌^◌, ◌<◌, ◌≤◌, Bool, List, [], ◌∷◌, ◌++◌, length, decimal, codes, ◌&&◌, nat_le, refl, ap, arith, length-append}
+use Rattle.std.proofs.Common.{◌≡◌, ℕ, suc, ◌+◌, ◌*◌, ◌^◌, ◌<◌, ◌≤◌, List, [], ◌∷◌, ◌++◌, length, decimal, codes, ◌&&◌, nat_le, refl, arith, length-append}
 use Rattle.std.proofs.lemmas.Bool.{and_parts}
 use Rattle.std.proofs.lemmas.Bool.Decides.{nat_tests}
 use Rattle.std.proofs.lemmas.Fmt.{length-decimal-le}
@@ -13,11 +13,11 @@ use Rattle.refl_types.specs.declared.types.Mode.{Mode}
 use Rattle.refl_types.specs.declared.types.Mode.TheVariants.{Plain, Auth, Twamp}
 use Rattle.refl_types.specs.declared.types.Key.{Key}
 use Rattle.refl_types.specs.Spelling.{FitsAddress}
-use Rattle.text_forms.specs.Names.{is_name_octet, is_name}
+use Rattle.text_forms.specs.Names.{is_name_octet}
 use Rattle.text_forms.specs.Endpoints.{dotted, more_groups, grouped, address_text, endpoint_text, HasText}
 use Rattle.operator_lines.specs.declared.line.Line.{Line}
 use Rattle.operator_lines.specs.declared.line.Line.TheVariants as lines
-use Rattle.operator_lines.specs.Lines.{mode_text, key_text, IsNamable, IsName, Spells, longest_wait, AreWords, IsLine, line_limit}
+use Rattle.operator_lines.specs.Lines.{mode_text, key_text, IsNamable, IsName, AreWords, IsLine, line_limit}
 
 dotted-len : (octets : List ℕ) → IsBytes octets → length (dotted octets) ≤ 4 * length octets
 dotted-len [] bytes = omega arith

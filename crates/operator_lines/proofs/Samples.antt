@@ -1,9 +1,9 @@
 -- The definitions of lines and answers, computed.
-use Rattle.std.proofs.Common.{◌≡◌, ℕ, ◌^◌, true, false, List, [], ◌∷◌, ◌++◌, codes, replicate, Some, None, refl}
+use Rattle.std.proofs.Common.{◌≡◌, [], ◌∷◌, codes, Some, None, refl}
 use Rattle.std.specs.Fmt.{digits}
 use Rattle.hex.proofs.OnLiterals.{hex_on_literals}
-use Rattle.refl_types.specs.declared.types.Address.TheVariants.{V4, V6}
-use Rattle.refl_types.specs.declared.types.Mode.TheVariants.{Plain, Auth, Twamp}
+use Rattle.refl_types.specs.declared.types.Address.TheVariants.{V4}
+use Rattle.refl_types.specs.declared.types.Mode.TheVariants.{Plain}
 use Rattle.refl_types.specs.declared.types.Key.{Key}
 use Rattle.text_forms.specs.Endpoints.{groups_at, v6_at}
 use Rattle.operator_lines.specs.declared.line.Line.TheVariants as lines

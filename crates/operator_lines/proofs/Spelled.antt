@@ -1,7 +1,6 @@
 -- Each session that is read is spelled so, and each spelling is read.
-use Rattle.std.proofs.Common.{◌≡◌, ℕ, ◌^◌, ◌<◌, ◌≤◌, Bool, true, false, cond, List, [], ◌∷◌, ◌++◌, Some, None, decimal, codes, bytes_eq, refl, ap, sym, subst, ◌∙◌, arith, append_assoc}
+use Rattle.std.proofs.Common.{◌≡◌, ℕ, ◌^◌, ◌<◌, ◌≤◌, true, List, ◌∷◌, ◌++◌, Some, decimal, codes, bytes_eq, refl, ap, sym, subst, ◌∙◌, arith, append_assoc}
 use Rattle.std.proofs.lemmas.Slice.Eq.{bytes_eq-Decides}
-use Rattle.std.proofs.lemmas.Bool.Decides.{nat_tests}
 use Rattle.refl_types.specs.declared.types.Endpoint.{Endpoint}
 use Rattle.refl_types.specs.declared.types.Mode.{Mode}
 use Rattle.refl_types.specs.declared.types.Mode.TheVariants.{Plain, Auth, Twamp}
@@ -12,7 +11,7 @@ use Rattle.text_forms.specs.Endpoints.{cut, endpoint_from, endpoint_text, HasTex
 use Rattle.operator_lines.specs.Lines.{mode_text, key_text, no_extra, IsNamable}
 use Rattle.operator_lines.specs.Reading.{space, mode_from, ends_at, with_ssid, key_from, key_at}
 use Rattle.operator_lines.proofs.Binds.{bind-some, bind-is, some-is, by-test}
-use Rattle.operator_lines.proofs.Above.{AreAbove, above-append, cut-word, word-cut, above-decimal, above-endpoint}
+use Rattle.operator_lines.proofs.Above.{AreAbove, cut-word, word-cut, above-decimal, above-endpoint}
 
 -- what is known of the words of numbers and endpoints
 pub record Texts : Type 0 where

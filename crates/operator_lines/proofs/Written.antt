@@ -1,14 +1,14 @@
 -- Each line that is spelled is read, and no line is longer than the limit.
-use Rattle.std.proofs.Common.{◌≡◌, ℕ, ◌+◌, ◌*◌, ◌^◌, ◌<◌, ◌≤◌, Bool, true, false, List, [], ◌∷◌, ◌++◌, length, Option, Some, None, Ok, decimal, codes, bytes_eq, nat_le, ◌&&◌, refl, ap, sym, ◌∙◌, arith, append_assoc}
+use Rattle.std.proofs.Common.{◌≡◌, ℕ, ◌^◌, ◌<◌, ◌≤◌, true, false, List, [], ◌∷◌, ◌++◌, length, Option, Some, decimal, codes, bytes_eq, nat_le, ◌&&◌, refl, ap, sym, ◌∙◌, arith}
 use Rattle.std.proofs.lemmas.Bool.{and_parts}
 use Rattle.std.proofs.lemmas.Bool.Decides.{nat_tests}
 use Rattle.std.proofs.lemmas.List.Sums.{list_all-from_AllPass}
 use Rattle.std.specs.List.{list_all}
-use Rattle.hex.specs.Hex.{decode_sized, is_hex_digit}
+use Rattle.hex.specs.Hex.{is_hex_digit}
 use Rattle.hex.proofs.HexLemmas.{IsOk-decode_sized}
 use Rattle.refl_types.specs.declared.types.Key.{Key}
 use Rattle.text_forms.specs.Numbers.{number_from}
-use Rattle.text_forms.specs.Names.{is_name_octet, is_name, name_from}
+use Rattle.text_forms.specs.Names.{is_name_octet, name_from}
 use Rattle.text_forms.specs.Endpoints.{cut}
 use Rattle.operator_lines.specs.declared.line.Line.{Line}
 use Rattle.operator_lines.specs.declared.line.Line.TheVariants as lines

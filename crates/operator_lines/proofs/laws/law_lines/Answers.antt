@@ -1,4 +1,3 @@
-use Rattle.std.proofs.Common.{refl}
 use Rattle.operator_lines.proofs.Spelled.{Texts}
 use Rattle.operator_lines.proofs.Asked.{line-read}
 use Rattle.operator_lines.proofs.Written.{line-written, line-one}

@@ -1,5 +1,4 @@
 use Rattle.std.proofs.Common.{◌≡◌, Some, None, sym, ◌∙◌}
-use Rattle.operator_lines.specs.declared.line.Line.{Line}
 use Rattle.operator_lines.specs.Reading.{line_from}
 use Rattle.operator_lines.proofs.reading.read_line.Goals as goal
 
