@@ -3,9 +3,10 @@
 
        load PID THREADS WINDOW SESSIONS SECONDS PORT..
 
-   Session number i is sent from 127.1.(i / 256).(i % 256), at port FIRST_PORT + i % THREADS, with SSID i, to the port number
-   i % PORTS of 127.0.0.1. Each thread keeps WINDOW datagrams under way. What process PID takes of the processor is measured
-   over the same time. It prints replies, seconds, processor seconds of PID, datagrams without a reply, and wrong replies. */
+   There are as many sockets as threads, but no more than sessions. Session number i is sent from 127.1.(i / 256).(i % 256), at
+   port FIRST_PORT + i % SOCKETS, with SSID i, to the port number i % PORTS of 127.0.0.1. Each thread keeps WINDOW datagrams
+   under way. What process PID takes of the processor is measured over the same time. It prints replies, seconds, processor
+   seconds of PID, datagrams without a reply, and wrong replies. */
 #define _GNU_SOURCE
 #include <arpa/inet.h>
 #include <pthread.h>
@@ -37,7 +38,7 @@ struct sender {
 };
 
 static struct sender senders[THREADS];
-static int threads, window, sessions, ports, port[PORTS];
+static int threads, sockets, window, sessions, ports, port[PORTS];
 static atomic_int ended;
 
 static void fail(const char *what) {
@@ -53,7 +54,7 @@ static void put32(uint8_t *at, uint32_t value) {
 /* The next session of a sender. */
 static uint32_t turn(struct sender *one) {
     uint32_t session = one->session;
-    one->session += (uint32_t)threads;
+    one->session += (uint32_t)sockets;
     if (one->session >= (uint32_t)sessions) one->session = (uint32_t)one->number;
     return session;
 }
@@ -69,8 +70,9 @@ static void prepare(struct sender *one, int at) {
     one->ends[at] = (struct sockaddr_in){.sin_family = AF_INET, .sin_addr.s_addr = htonl(INADDR_LOOPBACK),
                                          .sin_port = htons((uint16_t)port[session % (uint32_t)ports])};
     one->parts[at] = (struct iovec){one->octets[at], LEN};
-    *head = (struct msghdr){.msg_name = &one->ends[at], .msg_namelen = sizeof one->ends[at], .msg_iov = &one->parts[at],
-                            .msg_iovlen = 1, .msg_control = one->control[at].room, .msg_controllen = sizeof one->control[at].room};
+    *head = (struct msghdr){.msg_name = &one->ends[at], .msg_namelen = sizeof one->ends[at],
+                            .msg_iov = &one->parts[at], .msg_iovlen = 1,
+                            .msg_control = one->control[at].room, .msg_controllen = sizeof one->control[at].room};
     struct cmsghdr *part = CMSG_FIRSTHDR(head);
     struct in_pktinfo info = {.ipi_spec_dst.s_addr = htonl(0x7f010000u | (session & 0xffffu))};
     part->cmsg_level = IPPROTO_IP;
@@ -88,12 +90,11 @@ static void send_some(struct sender *one, int count) {
     }
 }
 
-/* Whether a reply belongs to a datagram of this sender. */
+/* Whether a reply belongs to a session of this sender, with the sender's Error Estimate and TTL in their places. */
 static int is_right(const struct sender *one, const uint8_t *octets, unsigned len) {
-    uint32_t session = (uint32_t)(octets[14] << 8 | octets[15]), sequence;
-    memcpy(&sequence, octets + 24, 4);
-    return len == LEN && session < (uint32_t)sessions && session % (uint32_t)threads == (uint32_t)one->number
-        && ntohl(sequence) < one->sequence && octets[37] == 1 && octets[40] == 255;
+    uint32_t session = (uint32_t)(octets[14] << 8 | octets[15]);
+    return len == LEN && session < (uint32_t)sessions && session % (uint32_t)sockets == (uint32_t)one->number
+        && octets[37] == 1 && octets[40] == 255;
 }
 
 static void *run(void *given) {
@@ -124,11 +125,15 @@ static void *run(void *given) {
 }
 
 static void open_sender(struct sender *one, int number) {
-    struct sockaddr_in local = {.sin_family = AF_INET, .sin_port = htons((uint16_t)(FIRST_PORT + number))};
+    struct sockaddr_in local = {.sin_family = AF_INET, .sin_port = htons((uint16_t)(FIRST_PORT + number % sockets))};
     struct timeval wait = {.tv_usec = PATIENCE_MILLIS * 1000};
     int room = 4 << 20;
-    one->number = number;
-    one->session = (uint32_t)number;
+    one->number = number % sockets;
+    one->session = (uint32_t)one->number;
+    if (number >= sockets) {
+        one->fd = senders[one->number].fd;
+        return;
+    }
     one->fd = socket(AF_INET, SOCK_DGRAM, 0);
     if (one->fd < 0 || bind(one->fd, (struct sockaddr *)&local, sizeof local)) fail("bind");
     setsockopt(one->fd, SOL_SOCKET, SO_RCVTIMEO, &wait, sizeof wait);
@@ -158,7 +163,8 @@ int main(int count, char **words) {
     window = atoi(words[3]);
     sessions = atoi(words[4]);
     for (int at = 6; at < count; at++) port[ports++] = atoi(words[at]);
-    if (threads < 1 || threads > THREADS || sessions < threads || sessions > 65536) return 2;
+    if (threads < 1 || threads > THREADS || sessions < 1 || sessions > 65536) return 2;
+    sockets = threads < sessions ? threads : sessions;
     if (clock_getcpuclockid((pid_t)atoi(words[1]), &clock)) fail("clock_getcpuclockid");
     for (int at = 0; at < threads; at++) open_sender(&senders[at], at);
     if (window > 0)

@@ -1,7 +1,7 @@
 /* SPDX-License-Identifier: Apache-2.0 */
 /* A reference for bench/run: a STAMP reflector as plain C would be, with the socket calls of `stampd run` and one thread for
-   each worker. It reads its sessions from standard input, a line "LOCAL PEER PORT SSID" each, binds 127.0.0.1 at the ports of
-   its words, and serves unauthenticated STAMP, stateful, with NTP timestamps, until it is ended by a signal.
+   each worker. It reads its sessions from standard input, a line "LOCAL PEER PORT SSID" each, binds 127.0.0.1 at the ports
+   of its words, and serves unauthenticated STAMP, stateful, with NTP timestamps, until it is ended by a signal.
 
        reflector WORKERS PORT.. <sessions */
 #define _GNU_SOURCE
@@ -43,7 +43,8 @@ static uint32_t place(uint16_t local, uint32_t address, uint16_t port, uint16_t 
 static struct session *find(uint16_t local, uint32_t address, uint16_t port, uint16_t ssid) {
     for (uint32_t at = place(local, address, port, ssid);; at = (at + 1) % PLACES) {
         struct session *one = &table[at];
-        if (!one->used || (one->address == address && one->port == port && one->local == local && one->ssid == ssid)) return one;
+        if (!one->used) return one;
+        if (one->address == address && one->port == port && one->local == local && one->ssid == ssid) return one;
     }
 }
 
@@ -121,7 +122,8 @@ static void *work(void *unused) {
 }
 
 static void open_local(int port) {
-    struct sockaddr_in local = {.sin_family = AF_INET, .sin_addr.s_addr = htonl(INADDR_LOOPBACK), .sin_port = htons((uint16_t)port)};
+    struct sockaddr_in local = {
+        .sin_family = AF_INET, .sin_addr.s_addr = htonl(INADDR_LOOPBACK), .sin_port = htons((uint16_t)port)};
     struct timeval wait = {.tv_usec = WAIT_MILLIS * 1000};
     struct epoll_event event = {.events = EPOLLIN | EPOLLET};
     int room = 4 << 20;

@@ -65,7 +65,11 @@ impl Sockets {
         for local in locals {
             each.push(bind_one(rt, local, is_alone)?)?;
         }
-        let set = if is_alone { None } else { Some(watch(rt, &each)?) };
+        let set = if is_alone {
+            None
+        } else {
+            Some(watch(rt, &each)?)
+        };
         let locals = Vec::from_slice(alloc, locals)?;
         Ok(Sockets { each, locals, set })
     }

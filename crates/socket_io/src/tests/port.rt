@@ -48,7 +48,7 @@ fn datagram<P: Port>(port: &mut P, buf: &mut [u8]) -> io::Result<Meta>
 struct Seat<P: Drop> {
     port: P,
     buf: Vec<u8>,
-    ghost room: { vec_len buf ≡ DATAGRAM_ROOM },
+    ghost room: { vec_len buf ≡ 65_536 },
 }
 
 /// A port that is bound to nothing yet, with its room.
