@@ -51,5 +51,7 @@ pub fn wait_until_tick(last: u64, now: u64) -> u64
     if ahead >= SECOND {
         return LONGEST_WAIT;
     }
-    (SECOND + ahead - passed).div_ceil(1_000_000).min(LONGEST_WAIT)
+    (SECOND + ahead - passed)
+        .div_ceil(1_000_000)
+        .min(LONGEST_WAIT)
 }

@@ -20,6 +20,23 @@ use std::time::Duration;
 /// The most octets of a datagram. IPv6 allows some more, and such datagrams are dropped.
 const DATAGRAM_LIMIT: usize = 65_507;
 
+/// How many datagrams in a row a socket may give before another is asked.
+const BURST: u32 = 32;
+
+/// Which socket is asked next, and how many datagrams it may give before the next one is.
+#[derive(Clone, Copy)]
+pub struct Turn {
+    at: usize,
+    left: u32,
+}
+
+impl Turn {
+    /// The first turn of the socket at a place.
+    pub fn of(at: usize) -> Turn {
+        Turn { at, left: BURST }
+    }
+}
+
 /// A datagram that stands at the front of a buffer.
 #[derive(Clone, Copy)]
 pub struct Arrived {
@@ -48,44 +65,57 @@ impl Sockets {
         for local in locals {
             each.push(bind_one(rt, local, is_alone)?)?;
         }
-        let set = if is_alone { None } else { Some(watch(rt, &each)?) };
+        let set = if is_alone {
+            None
+        } else {
+            Some(watch(rt, &each)?)
+        };
         let locals = Vec::from_slice(alloc, locals)?;
         Ok(Sockets { each, locals, set })
     }
 
-    /// The next datagram, where one comes within 100 ms or so. The socket at `turn` is asked first.
-    pub fn receive(&self, turn: &mut usize, buf: &mut [u8]) -> io::Result<Option<Arrived>>
+    /// The next datagram, where one comes within 100 ms or so. The socket whose turn it is is asked first.
+    pub fn receive(&self, turn: &mut Turn, buf: &mut [u8]) -> io::Result<Option<Arrived>>
         ensures len { IfOk result (λ found. IfSome found (λ arrived. arrived.len ≤ datagram_limit)) }
         ensures room { length buf.new ≡ length buf.old }
     {
-        if let Some(arrived) = self.sweep(turn, buf)? {
-            return Ok(Some(arrived));
+        let mut found = self.sweep(turn, buf)?;
+        if found.is_none() && self.waits() {
+            found = self.sweep(turn, buf)?;
         }
-        match &self.set {
-            Some(set) if wait(set) => self.sweep(turn, buf),
+        match found {
+            Some(arrived) if arrived.len <= DATAGRAM_LIMIT => Ok(Some(arrived)),
             _ => Ok(None),
         }
     }
 
-    /// The next datagram of the sockets, each of which is asked once.
-    fn sweep(&self, turn: &mut usize, buf: &mut [u8]) -> io::Result<Option<Arrived>>
-        ensures len { IfOk result (λ found. IfSome found (λ arrived. arrived.len ≤ datagram_limit)) }
-        ensures room { length buf.new ≡ length buf.old }
+    /// The next datagram of the sockets, each of which is asked once. One that fails or is empty loses its turn.
+    fn sweep(&self, turn: &mut Turn, buf: &mut [u8]) -> io::Result<Option<Arrived>>
+        ensures { length buf.new ≡ length buf.old }
     {
         for _ in 0..self.each.len() {
-            let at = if *turn < self.each.len() { *turn } else { 0 };
-            *turn = at + 1;
+            let Turn { at, left } = *turn;
+            let at = if at < self.each.len() { at } else { 0 };
+            *turn = Turn::of(at + 1);
             let Some((len, from)) = take(&self.each[at], buf)? else {
                 continue;
             };
-            let Ok(local) = u16::try_from(at) else {
-                continue;
-            };
-            if len <= DATAGRAM_LIMIT {
+            if left > 1 {
+                *turn = Turn { at, left: left - 1 };
+            }
+            if let Ok(local) = u16::try_from(at) {
                 return Ok(Some(Arrived { local, from, len }));
             }
         }
         Ok(None)
+    }
+
+    /// Whether a socket may have something after a wait of 100 ms at most. One socket alone has waited in its receive.
+    fn waits(&self) -> bool {
+        match &self.set {
+            Some(set) => wait(set),
+            None => false,
+        }
     }
 
     /// Sends a datagram from the local address of that number.

@@ -6,7 +6,7 @@ ghost use Rattle.refl_types.specs.Limits.{datagram_limit};
 use crate::address::endpoint_of;
 use crate::clock::wall_clock;
 use crate::ends::Ends;
-use crate::sockets::Sockets;
+use crate::sockets::{Sockets, Turn};
 use net_io::{Got, Port};
 use port_io::{Failed, count_failure};
 use refl_types::{Endpoint, LocalAddr, Memory, Meta};
@@ -33,8 +33,7 @@ pub struct UdpPort<R: Net + Clock + Copy> {
     ends: Ends,
     stage: Stage,
     sockets: Option<Arc<Sockets, Global>>,
-    /// The place of the socket that is asked next.
-    turn: usize,
+    turn: Turn,
     /// The last moment that was read, 0 before.
     last: u64,
     faults: u64,
@@ -70,7 +69,7 @@ impl<R: Net + Clock + Copy> UdpPort<R> {
             ends,
             stage: Stage::Unopened,
             sockets: None,
-            turn: 0,
+            turn: Turn::of(0),
             last: 0,
             faults: 0,
         })

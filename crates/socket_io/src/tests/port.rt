@@ -1,6 +1,7 @@
 //! Ports over the system's sockets.
 
-ghost use Rattle.std.specs.Prelude.{◌≡◌, ◌<◌, length};
+ghost use Rattle.std.specs.Prelude.{◌≡◌, ◌<◌, length, vec_len};
+ghost use Rattle.std.specs.Thread.{IsSend};
 
 use super::{LOOPBACK, LOOPBACK_6, PATIENCE, expect};
 use crate::address::{endpoint_of, socket_addr_of};
@@ -9,9 +10,10 @@ use crate::tcp_desk::TcpDesk;
 use crate::udp_port::UdpPort;
 use net_io::{DATAGRAM_ROOM, Desk, Got, Port};
 use refl_types::{Endpoint, Meta};
-use std::io;
+use std::io::{self, ErrorKind};
 use std::net::UdpSocket;
 use std::test::Fail;
+use std::thread::{Threads, join_mut};
 use std::time::Duration;
 
 /// A socket of the test, and its end.
@@ -28,17 +30,56 @@ fn free(rt: &HostRuntime, local: Endpoint) -> io::Result<Endpoint> {
 }
 
 /// The next datagram of a port, within some 5 s.
-fn datagram<P: Port>(port: &mut P, buf: &mut [u8]) -> Result<Meta, Fail>
+fn datagram<P: Port>(port: &mut P, buf: &mut [u8]) -> io::Result<Meta>
     requires bound { 0 < length (P.bound port.old) }
     requires room { length buf.old ≡ DATAGRAM_ROOM }
     ensures { P.bound port.new ≡ P.bound port.old }
 {
     for _ in 0..50 {
-        if let Got::Datagram(meta) = port.recv(buf)? {
+        if let Ok(Got::Datagram(meta)) = port.recv(buf) {
             return Ok(meta);
         }
     }
-    Err(Fail::new("no datagram came"))
+    Err(io::Error::from(ErrorKind::TimedOut))
+}
+
+/// A port, and room for a datagram.
+#[derive(Drop)]
+struct Seat<P: Drop> {
+    port: P,
+    buf: Vec<u8>,
+    ghost room: { vec_len buf ≡ 65_536 },
+}
+
+/// A port that is bound to nothing yet, with its room.
+fn unbound_seat(rt: HostRuntime, ends: &Ends) -> Result<Seat<UdpPort<HostRuntime>>, Fail> {
+    let port = UdpPort::make(rt, rt.alloc(), ends)?;
+    let buf = vec![in rt.alloc(); 0u8; DATAGRAM_ROOM]?;
+    Ok(Seat { port, buf })
+}
+
+/// The next datagrams of two ports, each in a thread of its own.
+fn both<R: Threads, P: Port + Drop + Send>(
+    rt: &R,
+    first: &mut Seat<P>,
+    second: &mut Seat<P>,
+) -> (io::Result<Meta>, io::Result<Meta>)
+    requires first { 0 < length (P.bound first.old.port) }
+    requires second { 0 < length (P.bound second.old.port) }
+    ensures first { P.bound first.new.port ≡ P.bound first.old.port }
+    ensures second { P.bound second.new.port ≡ P.bound second.old.port }
+{
+    join_mut(
+        rt,
+        &mut ||
+            requires { IsSend P.row × (0 < length (P.bound first.now.port)) }
+            ensures { P.bound first.exit.now.port ≡ P.bound first.entry.now.port }
+        { datagram(&mut first.port, &mut first.buf) },
+        &mut ||
+            requires { 0 < length (P.bound second.now.port) }
+            ensures { P.bound second.exit.now.port ≡ P.bound second.entry.now.port }
+        { datagram(&mut second.port, &mut second.buf) },
+    )
 }
 
 /// The octets of a datagram, each of which the test has chosen.
@@ -60,33 +101,29 @@ fn which(meta: &Meta, buf: &[u8], near: Endpoint, far: Endpoint) -> Option<usize
 
 #[test]
 fn two_ports_over_two_locals_take_each_datagram_once(rt: HostRuntime) -> Result<(), Fail> {
-    let alloc = rt.alloc();
-    let ends = Ends::make(alloc)?;
+    let ends = Ends::make(rt.alloc())?;
     let locals = [free(&rt, LOOPBACK)?, free(&rt, LOOPBACK)?];
     let (near, near_end) = socket(&rt, LOOPBACK)?;
     let (far, far_end) = socket(&rt, LOOPBACK)?;
-    let mut first = UdpPort::make(rt, alloc, &ends)?;
-    let mut second = UdpPort::make(rt, alloc, &ends)?;
-    first.open(&locals)?;
-    second.share(&first)?;
+    let mut first = unbound_seat(rt, &ends)?;
+    let mut second = unbound_seat(rt, &ends)?;
+    first.port.open(&locals)?;
+    second.port.share(&first.port)?;
     near.send_to(A, socket_addr_of(&locals[0]))?;
     near.send_to(B, socket_addr_of(&locals[1]))?;
     far.send_to(C, socket_addr_of(&locals[0]))?;
     far.send_to(D, socket_addr_of(&locals[1]))?;
 
-    let mut buf = vec![in alloc; 0u8; DATAGRAM_ROOM]?;
-    let meta = datagram(&mut first, &mut buf)?;
-    let one = which(&meta, &buf, near_end, far_end);
-    let meta = datagram(&mut second, &mut buf)?;
-    let two = which(&meta, &buf, near_end, far_end);
-    let meta = datagram(&mut second, &mut buf)?;
-    let three = which(&meta, &buf, near_end, far_end);
-    let meta = datagram(&mut first, &mut buf)?;
-    let four = which(&meta, &buf, near_end, far_end);
+    let (one, two) = both(&rt, &mut first, &mut second);
+    let one = which(&one?, &first.buf, near_end, far_end);
+    let two = which(&two?, &second.buf, near_end, far_end);
+    let (three, four) = both(&rt, &mut first, &mut second);
+    let three = which(&three?, &first.buf, near_end, far_end);
+    let four = which(&four?, &second.buf, near_end, far_end);
     let mut taken = [one, two, three, four];
     taken.sort_unstable();
     assert_eq!(rt; taken, [Some(0), Some(1), Some(2), Some(3)]);
-    assert_eq!(rt; second.recv(&mut buf)?, Got::Nothing);
+    assert_eq!(rt; second.port.recv(&mut second.buf)?, Got::Nothing);
     Ok(())
 }
 
