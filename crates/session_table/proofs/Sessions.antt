@@ -15,7 +15,7 @@ use Rattle.session_table.specs.Holding.{HoldsLook}
 use Rattle.session_table.specs.Finding.{SawSession, IsLoaded, FoundSession}
 use Rattle.session_table.specs.Visiting.{MetSession}
 use Rattle.session_table.specs.Drawing.{TookNumber, DrewNumber}
-use Rattle.session_table.specs.Knowing.{Places, Keeps, AreRead, MaybeLoads, KnowsRow, SawKnown, DrewKnown}
+use Rattle.session_table.specs.Knowing.{Places, Keeps, MaybeLoads, SawKnown, DrewKnown}
 use Rattle.session_table.proofs.BoolFacts.{and_i, or_l}
 use Rattle.session_table.proofs.Words.{WordsOf, reads_desk, held_keyed}
 use Rattle.session_table.proofs.RowsRead.{maybe_keeps}

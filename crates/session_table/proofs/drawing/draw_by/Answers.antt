@@ -15,7 +15,7 @@ pub know-requires-clause-named : goal.know-requires-clause-named
 know-requires-clause-named c =
     let f = c.unpack-fields.ensures in let read = c.draw_slot-word.result in
     ap (λ xs. names_open xs c.unpack-fields.result.row) c.draw_slot-word.ensures.step
-    ∙ draw_names c.args.look.now.slot read c.unpack-fields.result.row _ (no_not (is_open_word read) (sym f.closed ∙ c.if-fields.false)) f.row
+    ∙ draw_names c.args.look.now.slot read c.unpack-fields.result.row (worker_steps c.args.seat.now) (no_not (is_open_word read) (sym f.closed ∙ c.if-fields.false)) f.row
 
 pub returns-then-fields-clause-known : goal.returns-then-fields-clause-known
 returns-then-fields-clause-known c = only_more _ (Draw c.args.look.now.slot c.draw_slot-word.result ∷ []) (worker_steps c.args.seat.now) _ c.draw_slot-word.ensures.step
