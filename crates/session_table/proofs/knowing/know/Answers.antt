@@ -17,3 +17,19 @@ returns-clause-steps c = let e = c.load_config-config.ensures.loads in inr (e.0,
 pub returns-clause-known : goal.returns-clause-known
 returns-clause-known c = let e = c.load_config-config.ensures.loads in
     now_known _ _ c.args.row e.0 _ _ _ e.2.steps e.1 c.keep.ensures.kept c.keep.ensures.others
+
+pub returns-then-keeps-clause-knows : goal.returns-then-keeps-clause-knows
+returns-then-keeps-clause-knows c = let y = c.keeps.ensures.yes c.if-keeps.true in record {
+  config = y.0;
+  kept = y.1;
+  once = λ d k. (refl, refl);
+  others = λ t d k other. k;
+}
+
+pub returns-clause-knows : goal.returns-clause-knows
+returns-clause-knows c = record {
+  config = c.load_config-config.result;
+  kept = c.keep.ensures.kept;
+  once = λ d k. absurd (c.keeps.ensures.no c.if-keeps.false d k);
+  others = c.keep.ensures.stay;
+}
