@@ -15,7 +15,7 @@ use Rattle.session_table.specs.Holding.{HoldsLook}
 use Rattle.session_table.specs.Finding.{SawSession, IsLoaded, FoundSession}
 use Rattle.session_table.specs.Visiting.{MetSession}
 use Rattle.session_table.specs.Drawing.{TookNumber, DrewNumber}
-use Rattle.session_table.specs.Knowing.{Places, Keeps, AreRead, MaybeLoads, KnowsRow, SawKnown, DrewKnown}
+use Rattle.session_table.specs.Knowing.{Places, MaybeLoads, KnowsRow, SawKnown, DrewKnown}
 use Rattle.session_table.proofs.BoolFacts.{and_i, or_l}
 use Rattle.session_table.proofs.Words.{WordsOf, reads_desk, held_keyed}
 use Rattle.session_table.proofs.RowsRead.{maybe_keeps}
@@ -67,18 +67,20 @@ found z before mid after q s c word v m grown words loaded = record {
   keyed = met_keyed z before mid after q s c words v m (loaded_now s.row word mid after grown) (loaded.stands (config_at words.desk) (reads_desk z after words));
 }
 
-pub saw_known : (z : TableSize) (rows : Places) (before mid after : List Step) (q : Query) (s : Sight) (c : ConfigParts) → VisitsTell → MetSession z before mid q s
-    → MaybeLoads s.row mid after → WordsOf z after → Keeps rows s.row c → SawKnown z rows before after q s
-saw_known z rows before mid after q s c v m grown words kept = record {
+pub saw_known : (z : TableSize) (old rows : Places) (before mid after : List Step) (q : Query) (s : Sight) → VisitsTell → MetSession z before mid q s
+    → MaybeLoads s.row mid after → WordsOf z after → KnowsRow old rows mid after s.row → SawKnown z old rows before after q s
+saw_known z old rows before mid after q s v m grown words known = record {
   saw = saw_still z before mid after q s s.row grown m.saw;
   walk = m.walk;
   walked = m.walked;
   steps = subst (λ (l : List Step). MaybeLoads s.row l after) m.steps grown;
   knows = record {
-    config = c;
-    kept = kept;
-    keyed = λ read. met_keyed z before mid after q s c words v m grown (read (config_at words.desk) (reads_desk z after words) s.row c kept);
+    config = known.config;
+    kept = known.kept;
+    once = λ c k. let o = known.once c k in (o.0, o.1 ∙ m.steps);
+    others = known.others;
   };
+  keyed = λ read. met_keyed z before mid after q s known.config words v m grown (read (config_at words.desk) (reads_desk z after words) s.row known.config known.kept);
 }
 
 -- ---- a draw
@@ -120,16 +122,13 @@ module _ (z : TableSize) (before after : List Step) (q : Query) (s : Sight) (rea
       (maybe_keeps (λ (ys : List Step). names_open_here ys r ≡ true) r mid after (λ _ e. e) grown (draw_names_here s.slot read r before o at))
       (maybe_keeps (λ (ys : List Step). (f : ℕ → ℕ) → KeyLoadsAre f ys → s.key ≡ key_of f) r mid after (λ _ e. e) grown (held_key z before q s v hold)) is
 
-  pub drew_known : (rows : Places) (c : ConfigParts) → WordsOf z after → Keeps rows r c → DrewKnown z rows before after s n r
-  drew_known rows c words kept = record {
+  pub drew_known : (old rows : Places) → WordsOf z after → KnowsRow old rows mid after r → DrewKnown z old rows before after s n r
+  drew_known old rows words known = record {
     read = read;
     took = took;
     steps = grown;
-    knows = record {
-      config = c;
-      kept = kept;
-      keyed = λ reads. drew_keyed c words (reads (config_at words.desk) (reads_desk z after words) r c kept);
-    };
+    knows = known;
+    keyed = λ reads. drew_keyed known.config words (reads (config_at words.desk) (reads_desk z after words) r known.config known.kept);
   }
 
 pub drew_number : (z : TableSize) (before after : List Step) (q : Query) (s : Sight) (read n r : ℕ) (word : ℕ → ℕ) (c : ConfigParts) → VisitsTell → HoldsLook z before q s

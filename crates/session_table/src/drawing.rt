@@ -52,7 +52,7 @@ pub fn draw_by(
 ) -> DrawnRow
     requires same { IsWorkerOf table.now seat.old }
     requires held { (q : Query) × HoldsLook (size_of table.now) (worker_steps seat.old) q look.now }
-    ensures draws { (q : Query) → HoldsLook (size_of table.now) (worker_steps seat.old) q look.now → DrawsKnown (size_of table.now) known.new (worker_steps seat.old) (worker_steps seat.new) q look.now result }
+    ensures draws { (q : Query) → HoldsLook (size_of table.now) (worker_steps seat.old) q look.now → DrawsKnown (size_of table.now) known.old known.new (worker_steps seat.old) (worker_steps seat.new) q look.now result }
     ensures seat { HasCome table.now seat.old seat.new (worker_steps seat.new) }
     ensures known { StaysKnown known.old known.new (worker_steps seat.old) (worker_steps seat.new) }
 {

@@ -156,7 +156,7 @@ pub fn find_by(
 ) -> Seen
     requires same { IsWorkerOf table.now seat.old }
     requires nothing { HoldsNothing (worker_steps seat.old) }
-    ensures sees { Sees (size_of table.now) known.new (worker_steps seat.old) (worker_steps seat.new) (query_of meta.now.local meta.now.peer octets.now) result }
+    ensures sees { Sees (size_of table.now) known.old known.new (worker_steps seat.old) (worker_steps seat.new) (query_of meta.now.local meta.now.peer octets.now) result }
     ensures seat { HasCome table.now seat.old seat.new (worker_steps seat.new) }
     ensures known { StaysKnown known.old known.new (worker_steps seat.old) (worker_steps seat.new) }
 {

@@ -1,11 +1,11 @@
 //! Configurations that are kept by row, so that the words of a row are loaded, and its HMAC key hashed, once.
 
-ghost use Rattle.std.specs.Prelude.{◌≡◌, ℕ, ◌<◌, true, false, IfOk};
+ghost use Rattle.std.specs.Prelude.{◌≡◌, ℕ, ◌<◌, ◌%◌, true, false, IfOk};
 ghost use Rattle.session_world.specs.Keys.{ConfigParts};
 ghost use Rattle.session_world.specs.Loads.{names_open};
 ghost use Rattle.session_rule.specs.Seats.{size_of, IsWorkerOf, IsWorkerOfOneSchedule, worker_number, worker_steps};
 ghost use Rattle.session_table.specs.Steps.{HasCome};
-ghost use Rattle.session_table.specs.Knowing.{Keeps, KeepsNothing, MaybeLoads, StaysKnown};
+ghost use Rattle.session_table.specs.Knowing.{Keeps, KeepsNothing, KnowsRow, MaybeLoads, StaysKnown};
 
 use crate::loading::load_config;
 use keyed_config::KeyedConfig;
@@ -91,6 +91,7 @@ impl KnownRows {
     fn keep(&mut self, row: u32, config: &Config)
         ensures kept { Keeps self.new row config.now }
         ensures others { (r : ℕ) (c : ConfigParts) → Keeps self.new r c → ¬ (r ≡ row) → Keeps self.old r c }
+        ensures stay { (r : ℕ) (c : ConfigParts) → Keeps self.old r c → ¬ (r % 256 ≡ row % 256) → Keeps self.new r c }
     {
         self.rows[row as usize % PLACES] = Some((row, KeyedConfig::of(config)));
     }
@@ -102,7 +103,7 @@ pub(crate) fn know(table: &Table, seat: &mut WorkerSeat, known: &mut KnownRows, 
     requires same { IsWorkerOf table.now seat.old }
     requires schedule { IsWorkerOfOneSchedule (size_of table.now) (worker_number seat.old) (worker_steps seat.old) }
     requires named { names_open (worker_steps seat.old) row ≡ true }
-    ensures kept { (c : ConfigParts) × Keeps known.new row c }
+    ensures knows { KnowsRow known.old known.new (worker_steps seat.old) (worker_steps seat.new) row }
     ensures some { 0 < row }
     ensures steps { MaybeLoads row (worker_steps seat.old) (worker_steps seat.new) }
     ensures seat { HasCome table.now seat.old seat.new (worker_steps seat.new) }

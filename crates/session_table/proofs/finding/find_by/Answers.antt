@@ -15,9 +15,9 @@ know-requires-clause-named c = c.in-Held.ensures.walks.saw.named
 pub returns-in-Held-clause-sees : goal.returns-in-Held-clause-sees
 returns-in-Held-clause-sees c =
     let z : TableSize = size_of c.args.table.now in let before : List Step = worker_steps c.args.seat.now in let after : List Step = worker_steps c.know.new.seat in
-    subst (λ (q : Query). SawKnown z c.know.new.known before after q c.in-Held.sight) c.of-query.ensures
-    (saw_known z c.know.new.known before (worker_steps c.walk.new.seat) after c.of-query.result c.in-Held.sight c.know.ensures.kept.0 c.law_visits.ensures c.in-Held.ensures.walks c.know.ensures.steps
-    (words_of _ _ _ c.law_words.ensures (search rules) (search rules) c.know.ensures.seat.schedule) c.know.ensures.kept.1)
+    subst (λ (q : Query). SawKnown z c.args.known.now c.know.new.known before after q c.in-Held.sight) c.of-query.ensures
+    (saw_known z c.args.known.now c.know.new.known before (worker_steps c.walk.new.seat) after c.of-query.result c.in-Held.sight c.law_visits.ensures c.in-Held.ensures.walks c.know.ensures.steps
+    (words_of _ _ _ c.law_words.ensures (search rules) (search rules) c.know.ensures.seat.schedule) c.know.ensures.knows)
 
 pub returns-in-Held-clause-known : goal.returns-in-Held-clause-known
 returns-in-Held-clause-known c = let m = c.in-Held.ensures.walks in more_known _ _ m.walk (worker_steps c.args.seat.now) (worker_steps c.walk.new.seat) _ m.steps c.know.ensures.known
