@@ -4,7 +4,6 @@
 import os
 import pathlib
 import pty
-import random
 import select
 import subprocess
 import sys
@@ -13,7 +12,6 @@ import threading
 import time
 import tty
 
-import configuration
 from hex_text import octets
 from records import *
 
@@ -321,13 +319,6 @@ def a_fault_deep_in_a_long_file_has_its_place(program):
     wrong = sessions(16_000).replace("10.0.62.127:5000", "10.0.62.126:5000")
     table = [("a repeated peer", f"slots = 16384\n{wrong}{SMALL}", fault(b"bad sessions.15999"))]
     return checks(program, table)
-
-
-@case
-def files_at_random_are_told_as_a_second_reading_of_the_rules_tells_them(program):
-    numbers = random.Random(1)
-    texts = [configuration.some_file(numbers, wrong) for wrong in (0, 0.01, 0.03, 0.1) for _ in range(150)]
-    return checks(program, [(text, text, configuration.told(text)) for text in texts])
 
 
 @case
