@@ -1,13 +1,17 @@
 //! Tests.
 
-ghost use Rattle.std.specs.Prelude.{◌≡◌, ◌<◌, false};
+ghost use Rattle.std.specs.Prelude.{◌≡◌, false, []};
 ghost use Rattle.session_world.specs.Desk.{is_split};
-ghost use Rattle.session_rule.specs.Seats.{size_of};
+ghost use Rattle.session_rule.specs.Seats.{size_of, IsWorkerOf, worker_steps};
 ghost use Rattle.session_desk.specs.Book.{IsBookOf, steps_of};
 
 use crate::{DeskBook, NoSuch, Place, ReserveFault, RowsFull, SetFault, Ticked};
 use refl_types::{Address, Clock, Config, ConfigParts, Endpoint, Extra, Key, Mode};
-use session_rule::{Table, TableSize, announce, open_table, retire_announcement};
+use session_rule::{
+    Table, TableSize, WorkerSeat, announce, draw_slot, load_key_word, look, open_table,
+    retire_announcement,
+};
+use session_world::Query;
 use std::alloc::Global;
 use std::process::Abort;
 use std::test::Fail;
@@ -22,7 +26,7 @@ fn open(rt: &impl Abort, alloc: Global, slots: u32) -> (Table, DeskBook)
     ensures same { IsBookOf result.0 result.1 }
     ensures free { is_split (steps_of result.1) 1 ≡ false }
     ensures workers { (size_of result.0).workers ≡ 2 }
-    ensures slots { 0 < (size_of result.0).slots }
+    ensures slots { (size_of result.0).slots ≡ slots }
 {
     let size = TableSize {
         slots,
@@ -86,6 +90,41 @@ fn open_session(rt: &impl Abort, table: &Table, book: &mut DeskBook, key: &Key, 
     let place = reserve(rt, table, book, key, wait).expect(rt, "a place");
     book.start(table, &place, 0).expect(rt, "a session");
     place
+}
+
+/// The datagrams of the session with port 5000 and SSID 7.
+const QUERY: Query = Query {
+    local: 0,
+    peer: Endpoint {
+        address: Address::V4([192, 0, 2, 1]),
+        port: 5000,
+    },
+    plain: Some(7),
+    auth: None,
+};
+
+/// A worker that has made no step finds that session in the one slot of the table, under generation 1 and row 1, and draws
+/// its first number. The words are written out from their layout.
+fn draw_first(rt: &impl Abort, table: &Table, worker: &mut WorkerSeat)
+    requires same { IsWorkerOf table.now worker.old }
+    requires first { worker_steps worker.old ≡ [] }
+    requires slots { (size_of table.now).slots ≡ 1 }
+    ensures { IsWorkerOf table.now worker.new }
+{
+    announce(table, worker, 0);
+    let seen = look(table, worker, 0, &QUERY);
+    assert!(rt; seen == 0x4002);
+    let first = load_key_word(table, worker, 0, 1);
+    assert!(rt; first == 0xC000_0201_0000_0000);
+    let second = load_key_word(table, worker, 0, 2);
+    assert!(rt; second == 0);
+    let third = load_key_word(table, worker, 0, 3);
+    assert!(rt; third == 0x1388_0007_0000_0000);
+    let fourth = load_key_word(table, worker, 0, 4);
+    assert!(rt; fourth == 0);
+    let drawn = draw_slot(table, worker, 0);
+    assert!(rt; drawn == 0x4002);
+    retire_announcement(table, worker);
 }
 
 #[test]
@@ -166,6 +205,33 @@ fn another_slot_is_used_while_a_worker_holds_one(rt: HostRuntime) -> Result<(), 
     };
     let third = reserve(&rt, &table, &mut book, &key(Mode::Plain, 5001, 3), 0);
     assert_eq!(rt; third, Err(full));
+    Ok(())
+}
+
+#[test]
+fn a_draw_is_counted_and_lets_a_session_live_on(rt: HostRuntime) -> Result<(), Fail> {
+    let (table, mut book) = open(&rt, rt.alloc(), 1);
+    let mut worker = book.split(&table).expect(&rt, "a worker");
+    let session = key(Mode::Plain, 5000, 7);
+    open_session(&rt, &table, &mut book, &session, 10);
+    draw_first(&rt, &table, &mut worker);
+    assert_eq!(rt; book.count(&table, &session), Ok(1));
+    assert_eq!(rt;
+        book.tick(&table, 10),
+        Ticked {
+            closed: 0,
+            expired: 0
+        }
+    );
+    assert_eq!(rt;
+        book.tick(&table, 20),
+        Ticked {
+            closed: 0,
+            expired: 1
+        }
+    );
+    assert_eq!(rt; book.count(&table, &session), Err(NoSuch));
+    book.join(&table, worker);
     Ok(())
 }
 
