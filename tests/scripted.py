@@ -879,6 +879,19 @@ def the_demo_tells_that_no_such_stream_is_there(program):
     return None if (ended.returncode, ended.stderr) == (1, told) else f"status {ended.returncode}, {ended.stderr!r}"
 
 
+# ---- examples
+
+
+@case
+def the_example_files_are_accepted(program):
+    for name, counts in (("lab", (1, 2, 2)), ("edge", (2, 3, 4)), ("twamp", (1, 1, 1))):
+        ended = subprocess.run([program, "check", TOP / "examples" / f"{name}.toml"], capture_output=True, timeout=SECONDS)
+        told = "ok locals {} configs {} sessions {}\n".format(*counts).encode()
+        if (ended.stdout, ended.returncode) != (told, 0):
+            return f"{name}: {ended.stdout!r}, status {ended.returncode}"
+    return None
+
+
 # ---- captures
 
 
