@@ -153,7 +153,7 @@ def session(path, value, locals_, configs, earlier):
     symmetrical = flag(f"{path}.symmetrical", found.get("symmetrical", False))
     sound = ssid == 0 if mode == "twamp" else not reflect and not symmetrical
     keyed = mode != "auth" or config[-1] is not None
-    apart = all(ends != its or (mode == other and ssid != number) for its, other, number, _ in earlier)
+    apart = all(ends != its or (mode == other and ssid != taken) for its, other, taken, _ in earlier)
     if not (sound and keyed and apart):
         raise Fault(f"bad {path}")
     return ends, mode, ssid, config
