@@ -76,9 +76,11 @@ fn no_files(alloc: Global) -> Result<MemFiles, Fail> {
 
 /// A file with this name and text.
 fn one_file(alloc: Global, name: &str, text: &str) -> Result<MemFiles, Fail> {
+    let mut names = Vec::new(alloc);
+    names.push(String::from_str(alloc, name)?)?;
     let mut contents = Vec::new(alloc);
     contents.push(Vec::from_slice(alloc, text.as_bytes())?)?;
-    Ok(MemFiles::make(alloc, words(alloc, &[name])?, contents, Vec::new(alloc))?)
+    Ok(MemFiles::make(alloc, names, contents, Vec::new(alloc))?)
 }
 
 #[test]
