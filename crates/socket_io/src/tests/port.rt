@@ -9,6 +9,7 @@ use crate::ends::Ends;
 use crate::tcp_desk::TcpDesk;
 use crate::udp_port::UdpPort;
 use net_io::{DATAGRAM_ROOM, Desk, Got, Port};
+use port_io::Failed;
 use refl_types::{Endpoint, Meta};
 use std::io::{self, ErrorKind};
 use std::net::UdpSocket;
@@ -56,6 +57,13 @@ fn unbound_seat(rt: HostRuntime, ends: &Ends) -> Result<Seat<UdpPort<HostRuntime
     let port = UdpPort::make(rt, rt.alloc(), ends)?;
     let buf = vec![in rt.alloc(); 0u8; DATAGRAM_ROOM]?;
     Ok(Seat { port, buf })
+}
+
+/// What the next receive of a port gives.
+fn receive<P: Port + Drop>(seat: &mut Seat<P>) -> Result<Got, Failed>
+    requires { 0 < length (P.bound seat.old.port) }
+{
+    seat.port.recv(&mut seat.buf)
 }
 
 /// The next datagrams of two ports, each in a thread of its own.
@@ -123,7 +131,7 @@ fn two_ports_over_two_locals_take_each_datagram_once(rt: HostRuntime) -> Result<
     let mut taken = [one, two, three, four];
     taken.sort_unstable();
     assert_eq!(rt; taken, [Some(0), Some(1), Some(2), Some(3)]);
-    assert_eq!(rt; second.port.recv(&mut second.buf)?, Got::Nothing);
+    assert_eq!(rt; receive(&mut second)?, Got::Nothing);
     Ok(())
 }
 
