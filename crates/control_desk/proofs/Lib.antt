@@ -1,0 +1,4 @@
+pub mod Following
+pub mod NameFacts
+pub mod Choices
+pub mod OperatorFacts

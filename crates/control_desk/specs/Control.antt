@@ -1,0 +1,189 @@
+-- What the messages of a control connection do (RFC 5357, section 3; RFC 4656, section 3): the calls of each message, in their
+-- order, its reply, and when the connection is hung up. Which candidate is taken and each accept value are this project's own.
+use Rattle.std.specs.Prelude.{ℕ, suc, ◌+◌, ◌*◌, ◌-◌, ◌^◌, min, Bool, true, false, ◌==◌, ◌&&◌, ◌||◌, not, nat_le, if◌then◌else◌, List, [], ◌∷◌, ◌++◌, length, replicate, Option, Some, None, Result, Ok, Err}
+use Rattle.refl_types.specs.declared.types.Address.{Address}
+use Rattle.refl_types.specs.declared.types.Address.TheVariants.{V4, V6}
+use Rattle.refl_types.specs.declared.types.Endpoint.{Endpoint}
+use Rattle.refl_types.specs.declared.types.Mode.TheVariants.{Twamp}
+use Rattle.refl_types.specs.declared.types.Key.{Key}
+use Rattle.refl_types.specs.declared.types.Extra.{Extra}
+use Rattle.refl_types.specs.declared.config.ConfigParts.{ConfigParts}
+use Rattle.refl_types.specs.declared.outcome.Place.{Place}
+use Rattle.refl_types.specs.Same.{same_address}
+use Rattle.ntp_time.specs.Timeout.{timeout_span}
+use Rattle.control_msgs.specs.declared.types.Request.{Request as SessionRequest}
+use Rattle.control_msgs.specs.Modes.{is_symmetrical, reflects_octets}
+use Rattle.twamp_control.specs.declared.types.Message.{Message}
+use Rattle.twamp_control.specs.declared.types.Stage.{Stage}
+use Rattle.twamp_control.specs.declared.types.Stage.TheVariants.{SettingUp, Idle, Started, HungUp}
+use Rattle.twamp_control.specs.declared.types.Ask.{Ask}
+use Rattle.twamp_control.specs.declared.types.Ask.TheVariants.{Reserve, StartAll, StopAll, Nothing, HangUp}
+use Rattle.twamp_control.specs.declared.types.DeskAnswer.{DeskAnswer}
+use Rattle.twamp_control.specs.declared.types.DeskAnswer.TheVariants.{Reserved, Refused, Done}
+use Rattle.twamp_control.specs.Connection.{messages_in, connection_after, is_hung_up, unless_hung_up}
+use Rattle.twamp_control.specs.Table.{Row, ask_of, row_of}
+use Rattle.session_desk.specs.declared.session.ReserveFault.{ReserveFault}
+use Rattle.session_desk.specs.declared.session.ReserveFault.TheVariants.{Duplicate, ModeClash, NoKey, RowsFull, Full}
+use Rattle.control_desk.specs.Plan.{Plan, send, hang_up, reserve, start, abandon, close, close_at, live_place}
+use Rattle.control_desk.specs.State.{Setting}
+use Rattle.control_desk.specs.declared.own.OwnSession.{OwnSession}
+use Rattle.control_desk.specs.declared.sides.ControlSide.{ControlSide}
+
+-- ---- the sessions of a connection, in the order in which they were reserved
+
+abbrev pub start_all : ℕ → List OwnSession → Plan → Plan
+start_all now [] more = more
+start_all now (o ∷ os) more = start o.place now (λ a. start_all now os more)
+
+abbrev pub abandon_all : List OwnSession → Plan → Plan
+abandon_all [] more = more
+abandon_all (o ∷ os) more = abandon o.place (λ a. abandon_all os more)
+
+abbrev pub same_place : Place → Place → Bool
+same_place p q = p.slot == q.slot && p.generation == q.generation
+
+-- A started session is the connection's only while its key is live at its place: else nothing more is done for it
+abbrev pub while_own : OwnSession → Plan → Plan → Option Place → Plan
+while_own o act more None = more
+while_own o act more (Some p) = if same_place p o.place then act else more
+
+abbrev pub close_all : List OwnSession → Plan → Plan
+close_all [] more = more
+close_all (o ∷ os) more = live_place o.key (while_own o (close o.key (λ a. close_all os more)) (close_all os more))
+
+abbrev pub closing_moment : ℕ → OwnSession → ℕ
+closing_moment now o = min (now + o.timeout) (2 ^ 64 - 1)
+
+abbrev pub close_all_at : ℕ → List OwnSession → Plan → Plan
+close_all_at now [] more = more
+close_all_at now (o ∷ os) more =
+    live_place o.key (while_own o (close_at o.key (closing_moment now o) (λ a. close_all_at now os more)) (close_all_at now os more))
+
+-- by a Stop-Sessions: reserved sessions are abandoned, and started ones end after their timeout
+abbrev pub stop_all : Stage → ℕ → List OwnSession → Plan → Plan
+stop_all Started now os more = close_all_at now os more
+stop_all stage now os more = abandon_all os more
+
+-- by the end of the connection
+abbrev pub end_all : Stage → List OwnSession → Plan → Plan
+end_all Started os more = close_all os more
+end_all stage os more = abandon_all os more
+
+abbrev pub hang_up_plan : ℕ → Stage → List OwnSession → Plan → Plan
+hang_up_plan n stage os gone = hang_up n (end_all stage os gone)
+
+-- ---- a Request-TW-Session
+
+abbrev pub is_of_family : Bool → Address → Bool
+is_of_family v6 (V4 a) = not v6
+is_of_family v6 (V6 a) = v6
+
+abbrev pub or_else : Option Address → Address → Address
+or_else None a = a
+or_else (Some b) a = b
+
+abbrev pub any_address : Bool → Address
+any_address true = V6 (replicate 16 0)
+any_address false = V4 (replicate 4 0)
+
+-- a local that may receive for this address
+abbrev pub receives : Bool → Address → Endpoint → Bool
+receives v6 a l = same_address l.address a || same_address l.address (any_address v6)
+
+-- the number of a local, and its port
+pub record Candidate : Type 0 where
+  pub local : ℕ
+  pub port : ℕ
+
+abbrev pub chosen : (Endpoint → Bool) → ℕ → List Endpoint → List Candidate
+chosen test i [] = []
+chosen test i (l ∷ ls) = if test l then record { local = i; port = l.port } ∷ chosen test (suc i) ls else chosen test (suc i) ls
+
+-- first those with the wanted port, and then the others
+abbrev pub candidates : List Endpoint → Bool → Address → ℕ → List Candidate
+candidates locals v6 a port = chosen (λ l. receives v6 a l && l.port == port) 0 locals ++ chosen (λ l. receives v6 a l && not (l.port == port)) 0 locals
+
+-- nanoseconds for which a session waits for a datagram
+abbrev pub reserved_wait : ℕ
+reserved_wait = 900 * 10 ^ 9
+
+-- sessions of one connection
+abbrev pub session_limit : ℕ
+session_limit = 16
+
+abbrev pub extra_of : ℕ → SessionRequest → Extra
+extra_of mode r = record { symmetrical = is_symmetrical mode; reflect = if reflects_octets mode then r.reflect else 0 }
+
+-- what the messages's reply needs, and the session that was reserved
+abbrev pub NextAnswer : Type 0
+NextAnswer = DeskAnswer → List OwnSession → Plan
+
+abbrev pub key_at : Candidate → Address → ℕ → Key
+key_at c a port = record { local = c.local; peer = record { address = a; port = port }; mode = Twamp; ssid = 0 }
+
+abbrev pub tried : Key → ℕ → SessionRequest → NextAnswer → Plan → Result Place ReserveFault → Plan
+tried k port r next more (Ok place) = next (Reserved place port) (record { place = place; key = k; timeout = timeout_span r.timeout } ∷ [])
+tried k port r next more (Err (Duplicate j)) = more
+tried k port r next more (Err (ModeClash j)) = more
+tried k port r next more (Err e) = next (Refused 5) []
+
+abbrev pub try_all : ConfigParts → Extra → Address → SessionRequest → NextAnswer → List Candidate → Plan
+try_all config x a r next [] = next (Refused 5) []
+try_all config x a r next (c ∷ cs) =
+    (let k = key_at c a r.sender_port in reserve k x config reserved_wait (tried k c.port r next (try_all config x a r next cs)))
+
+abbrev pub try_some : ConfigParts → Extra → Address → SessionRequest → NextAnswer → List Candidate → Plan
+try_some config x a r next [] = next (Refused 3) []
+try_some config x a r next (c ∷ cs) = try_all config x a r next (c ∷ cs)
+
+-- without a configuration for negotiated sessions no control connection is kept
+abbrev pub under_twamp : Setting → ControlSide → SessionRequest → NextAnswer → Option ConfigParts → Plan
+under_twamp f c r next None = next (Refused 5) []
+under_twamp f c r next (Some config) =
+    (let from = or_else r.sender c.peer in let to = or_else r.receiver c.local in
+    if is_of_family r.v6 from && is_of_family r.v6 to
+    then try_some config (extra_of c.machine.mode r) from r next (candidates f.locals r.v6 to r.receiver_port)
+    else next (Refused 3) [])
+
+abbrev pub request_plan : Setting → ControlSide → SessionRequest → NextAnswer → Plan
+request_plan f c r next = if nat_le session_limit (length c.sessions) then next (Refused 4) [] else under_twamp f c r next f.twamp
+
+-- ---- a message
+
+-- What becomes of the connection's sessions is known by the stage in which they are
+abbrev pub stage_behind : ControlSide → Row → Stage
+stage_behind c row = unless_hung_up row.next.stage c.machine.stage row.next.stage
+
+-- behind the reply: more is read, or the connection is hung up
+abbrev pub behind_reply : ℕ → (ControlSide → Plan) → Plan → ControlSide → Row → Plan
+behind_reply n more gone c row =
+    if is_hung_up row.next.stage then hang_up_plan n (stage_behind c row) c.sessions gone
+    else more (record c { machine = row.next })
+
+abbrev pub send_reply : ℕ → (ControlSide → Plan) → Plan → ControlSide → Row → List ℕ → Plan
+send_reply n more gone c row [] = behind_reply n more gone c row
+send_reply n more gone c row (b ∷ reply) = send n (b ∷ reply) (behind_reply n more gone c row) (hang_up_plan n (stage_behind c row) c.sessions gone)
+
+abbrev pub reply_plan : ℕ → ℕ → (ControlSide → Plan) → Plan → Message → ControlSide → DeskAnswer → Plan
+reply_plan n now more gone m c answer = (let row = row_of c.machine m answer now in send_reply n more gone c row row.reply)
+
+abbrev pub asked_plan : Setting → ℕ → ℕ → (ControlSide → Plan) → Plan → ControlSide → Message → Ask → Plan
+asked_plan f n now more gone c m (Reserve r) = request_plan f c r (λ answer own. reply_plan n now more gone m (record c { sessions = c.sessions ++ own }) answer)
+asked_plan f n now more gone c m StartAll = start_all now c.sessions (reply_plan n now more gone m c Done)
+asked_plan f n now more gone c m (StopAll number) = stop_all c.machine.stage now c.sessions (reply_plan n now more gone m (record c { sessions = [] }) Done)
+asked_plan f n now more gone c m Nothing = reply_plan n now more gone m c Done
+asked_plan f n now more gone c m HangUp = reply_plan n now more gone m c Done
+
+abbrev pub message_plan : Setting → ℕ → ℕ → (ControlSide → Plan) → Plan → ControlSide → List Message → Plan
+message_plan f n now more gone c [] = more c
+message_plan f n now more gone c (m ∷ ms) = asked_plan f n now more gone c m (ask_of c.machine m)
+
+-- ---- octets, of which each completes at most one message
+
+abbrev pub with_octet : ControlSide → ℕ → ℕ → ControlSide
+with_octet c now b = record c { machine = connection_after c.machine (b ∷ []); heard = now }
+
+unfoldable pub control_plan : Setting → ℕ → ℕ → (ControlSide → Plan) → Plan → ControlSide → List ℕ → Plan
+control_plan f n now more gone c [] = more c
+control_plan f n now more gone c (b ∷ octets) =
+    message_plan f n now (λ d. control_plan f n now more gone d octets) gone (with_octet c now b) (messages_in c.machine (b ∷ []))
