@@ -1,6 +1,7 @@
 -- What the messages of a control connection do (RFC 5357, section 3; RFC 4656, section 3): the calls of each message, in their
 -- order, its reply, and when the connection is hung up. Which candidate is taken and each accept value are this project's own.
 use Rattle.std.specs.Prelude.{ℕ, suc, ◌+◌, ◌*◌, ◌-◌, ◌^◌, min, Bool, true, false, ◌==◌, ◌&&◌, ◌||◌, not, nat_le, if◌then◌else◌, List, [], ◌∷◌, ◌++◌, length, replicate, Option, Some, None, Result, Ok, Err}
+use Rattle.std.specs.List.{list_any}
 use Rattle.refl_types.specs.declared.types.Address.{Address}
 use Rattle.refl_types.specs.declared.types.Address.TheVariants.{V4, V6}
 use Rattle.refl_types.specs.declared.types.Endpoint.{Endpoint}
@@ -28,6 +29,8 @@ use Rattle.control_desk.specs.Plan.{Plan, send, hang_up, reserve, start, abandon
 use Rattle.control_desk.specs.State.{Setting}
 use Rattle.control_desk.specs.declared.own.OwnSession.{OwnSession}
 use Rattle.control_desk.specs.declared.sides.ControlSide.{ControlSide}
+use Rattle.control_desk.specs.declared.requests.Tried.{Tried}
+use Rattle.control_desk.specs.declared.requests.Tried.TheVariants.{Taken, RefusedAll, TriesNext}
 
 -- ---- the sessions of a connection, in the order in which they were reserved
 
@@ -47,17 +50,22 @@ abbrev pub while_own : OwnSession → Plan → Plan → Option Place → Plan
 while_own o act more None = more
 while_own o act more (Some p) = if same_place p o.place then act else more
 
+abbrev pub close_one : OwnSession → Plan → Plan
+close_one o more = live_place o.key (while_own o (close o.key (λ a. more)) more)
+
 abbrev pub close_all : List OwnSession → Plan → Plan
 close_all [] more = more
-close_all (o ∷ os) more = live_place o.key (while_own o (close o.key (λ a. close_all os more)) (close_all os more))
+close_all (o ∷ os) more = close_one o (close_all os more)
 
 abbrev pub closing_moment : ℕ → OwnSession → ℕ
 closing_moment now o = min (now + o.timeout) (2 ^ 64 - 1)
 
+abbrev pub close_one_at : ℕ → OwnSession → Plan → Plan
+close_one_at now o more = live_place o.key (while_own o (close_at o.key (closing_moment now o) (λ a. more)) more)
+
 abbrev pub close_all_at : ℕ → List OwnSession → Plan → Plan
 close_all_at now [] more = more
-close_all_at now (o ∷ os) more =
-    live_place o.key (while_own o (close_at o.key (closing_moment now o) (λ a. close_all_at now os more)) (close_all_at now os more))
+close_all_at now (o ∷ os) more = close_one_at now o (close_all_at now os more)
 
 -- by a Stop-Sessions: reserved sessions are abandoned, and started ones end after their timeout
 abbrev pub stop_all : Stage → ℕ → List OwnSession → Plan → Plan
@@ -95,13 +103,19 @@ pub record Candidate : Type 0 where
   pub local : ℕ
   pub port : ℕ
 
+-- a local that may receive for this address, on the wanted port or on another
+abbrev pub is_candidate : Bool → Address → ℕ → (wanted : Bool) → Endpoint → Bool
+is_candidate v6 a port true l = receives v6 a l && l.port == port
+is_candidate v6 a port false l = receives v6 a l && not (l.port == port)
+
+-- those that pass a test, counted on from i
 abbrev pub chosen : (Endpoint → Bool) → ℕ → List Endpoint → List Candidate
 chosen test i [] = []
-chosen test i (l ∷ ls) = if test l then record { local = i; port = l.port } ∷ chosen test (suc i) ls else chosen test (suc i) ls
+chosen test i (l ∷ ls) = if test l then record { local = i; port = l.port } ∷ chosen test (i + 1) ls else chosen test (i + 1) ls
 
 -- first those with the wanted port, and then the others
 abbrev pub candidates : List Endpoint → Bool → Address → ℕ → List Candidate
-candidates locals v6 a port = chosen (λ l. receives v6 a l && l.port == port) 0 locals ++ chosen (λ l. receives v6 a l && not (l.port == port)) 0 locals
+candidates locals v6 a port = chosen (is_candidate v6 a port true) 0 locals ++ chosen (is_candidate v6 a port false) 0 locals
 
 -- nanoseconds for which a session waits for a datagram
 abbrev pub reserved_wait : ℕ
@@ -121,32 +135,46 @@ NextAnswer = DeskAnswer → List OwnSession → Plan
 abbrev pub key_at : Candidate → Address → ℕ → Key
 key_at c a port = record { local = c.local; peer = record { address = a; port = port }; mode = Twamp; ssid = 0 }
 
+abbrev pub own_session : Key → Place → SessionRequest → OwnSession
+own_session k place r = record { place = place; key = k; timeout = timeout_span r.timeout }
+
+-- a key that is taken leaves the next candidate; any other refusal is that of the request
 abbrev pub tried : Key → ℕ → SessionRequest → NextAnswer → Plan → Result Place ReserveFault → Plan
-tried k port r next more (Ok place) = next (Reserved place port) (record { place = place; key = k; timeout = timeout_span r.timeout } ∷ [])
+tried k port r next more (Ok place) = next (Reserved place port) (own_session k place r ∷ [])
 tried k port r next more (Err (Duplicate j)) = more
 tried k port r next more (Err (ModeClash j)) = more
-tried k port r next more (Err e) = next (Refused 5) []
+tried k port r next more (Err NoKey) = next (Refused 5) []
+tried k port r next more (Err RowsFull) = next (Refused 5) []
+tried k port r next more (Err (Full live reserved retired held)) = next (Refused 5) []
 
-abbrev pub try_all : ConfigParts → Extra → Address → SessionRequest → NextAnswer → List Candidate → Plan
+unfoldable pub try_all : ConfigParts → Extra → Address → SessionRequest → NextAnswer → List Candidate → Plan
 try_all config x a r next [] = next (Refused 5) []
 try_all config x a r next (c ∷ cs) =
-    (let k = key_at c a r.sender_port in reserve k x config reserved_wait (tried k c.port r next (try_all config x a r next cs)))
+    reserve (key_at c a r.sender_port) x config reserved_wait (tried (key_at c a r.sender_port) c.port r next (try_all config x a r next cs))
 
-abbrev pub try_some : ConfigParts → Extra → Address → SessionRequest → NextAnswer → List Candidate → Plan
-try_some config x a r next [] = next (Refused 3) []
-try_some config x a r next (c ∷ cs) = try_all config x a r next (c ∷ cs)
+-- both addresses are of the family that is asked for, and a local may receive
+abbrev pub is_served : List Endpoint → SessionRequest → Address → Address → Bool
+is_served locals r from to = is_of_family r.v6 from && is_of_family r.v6 to && list_any (receives r.v6 to) locals
+
+abbrev pub between : Setting → ControlSide → SessionRequest → NextAnswer → ConfigParts → Address → Address → Plan
+between f c r next config from to =
+    if is_served f.locals r from to
+    then try_all config (extra_of c.machine.mode r) from r next (candidates f.locals r.v6 to r.receiver_port)
+    else next (Refused 3) []
 
 -- without a configuration for negotiated sessions no control connection is kept
 abbrev pub under_twamp : Setting → ControlSide → SessionRequest → NextAnswer → Option ConfigParts → Plan
 under_twamp f c r next None = next (Refused 5) []
-under_twamp f c r next (Some config) =
-    (let from = or_else r.sender c.peer in let to = or_else r.receiver c.local in
-    if is_of_family r.v6 from && is_of_family r.v6 to
-    then try_some config (extra_of c.machine.mode r) from r next (candidates f.locals r.v6 to r.receiver_port)
-    else next (Refused 3) [])
+under_twamp f c r next (Some config) = between f c r next config (or_else r.sender c.peer) (or_else r.receiver c.local)
 
 abbrev pub request_plan : Setting → ControlSide → SessionRequest → NextAnswer → Plan
 request_plan f c r next = if nat_le session_limit (length c.sessions) then next (Refused 4) [] else under_twamp f c r next f.twamp
+
+-- what came of a candidate, or of several
+abbrev pub after_tried : Tried → NextAnswer → Plan → Plan
+after_tried (Taken own port) next more = next (Reserved own.place port) (own ∷ [])
+after_tried RefusedAll next more = next (Refused 5) []
+after_tried TriesNext next more = more
 
 -- ---- a message
 
@@ -167,10 +195,16 @@ send_reply n more gone c row (b ∷ reply) = send n (b ∷ reply) (behind_reply 
 abbrev pub reply_plan : ℕ → ℕ → (ControlSide → Plan) → Plan → Message → ControlSide → DeskAnswer → Plan
 reply_plan n now more gone m c answer = (let row = row_of c.machine m answer now in send_reply n more gone c row row.reply)
 
+abbrev pub with_own : ControlSide → List OwnSession → ControlSide
+with_own c own = record c { sessions = c.sessions ++ own }
+
+abbrev pub without_own : ControlSide → ControlSide
+without_own c = record c { sessions = [] }
+
 abbrev pub asked_plan : Setting → ℕ → ℕ → (ControlSide → Plan) → Plan → ControlSide → Message → Ask → Plan
-asked_plan f n now more gone c m (Reserve r) = request_plan f c r (λ answer own. reply_plan n now more gone m (record c { sessions = c.sessions ++ own }) answer)
+asked_plan f n now more gone c m (Reserve r) = request_plan f c r (λ answer own. reply_plan n now more gone m (with_own c own) answer)
 asked_plan f n now more gone c m StartAll = start_all now c.sessions (reply_plan n now more gone m c Done)
-asked_plan f n now more gone c m (StopAll number) = stop_all c.machine.stage now c.sessions (reply_plan n now more gone m (record c { sessions = [] }) Done)
+asked_plan f n now more gone c m (StopAll number) = stop_all c.machine.stage now c.sessions (reply_plan n now more gone m (without_own c) Done)
 asked_plan f n now more gone c m Nothing = reply_plan n now more gone m c Done
 asked_plan f n now more gone c m HangUp = reply_plan n now more gone m c Done
 
