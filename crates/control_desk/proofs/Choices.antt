@@ -1,5 +1,6 @@
 -- Choices by tests, and tests of numbers.
-use Rattle.std.proofs.Common.{◌≡◌, ℕ, ◌<◌, ◌≤◌, leb, eqb, Bool, true, false, if◌then◌else◌, refl, sym, ◌∙◌, arith}
+use Rattle.std.proofs.Common.{◌≡◌, ℕ, suc, ◌+◌, ◌<◌, ◌≤◌, leb, eqb, Bool, true, false, if◌then◌else◌, List, ◌∷◌, length, drop, get_or, refl, sym, ap, ◌∙◌, arith}
+use Rattle.std.proofs.Math.Seq.{drop-cons}
 use Rattle.std.proofs.lemmas.Bool.Decides.{nat_tests}
 
 pub reaches : (m n : ℕ) → m ≤ n → leb m n ≡ true
@@ -30,3 +31,8 @@ differs a b h = grind (arith, nat_tests)
 
 pub equals : (a b : ℕ) → a ≡ b → eqb a b ≡ true
 equals a b h = grind (arith, nat_tests)
+
+-- ---- lists
+
+pub next_item : {A : Type 0} (l : List A) (i : ℕ) (x : A) → i < length l → drop i l ≡ get_or l i x ∷ drop (i + 1) l
+next_item {A} l i x h = let e : suc i ≡ i + 1 = omega arith in drop-cons l i x h ∙ ap (λ (j : ℕ). get_or l i x ∷ drop j l) e

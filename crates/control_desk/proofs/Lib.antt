@@ -2,3 +2,7 @@ pub mod Following
 pub mod NameFacts
 pub mod Choices
 pub mod OperatorFacts
+pub mod OwnFacts
+pub mod RequestFacts
+pub mod TalkFacts
+pub mod IndexFacts

@@ -108,10 +108,14 @@ abbrev pub is_candidate : Bool → Address → ℕ → (wanted : Bool) → Endpo
 is_candidate v6 a port true l = receives v6 a l && l.port == port
 is_candidate v6 a port false l = receives v6 a l && not (l.port == port)
 
--- those that pass a test, counted on from i
+-- a local that passes a test
+abbrev pub chosen_one : (Endpoint → Bool) → ℕ → Endpoint → List Candidate
+chosen_one test i l = if test l then record { local = i; port = l.port } ∷ [] else []
+
+-- those that pass it, counted on from i
 abbrev pub chosen : (Endpoint → Bool) → ℕ → List Endpoint → List Candidate
 chosen test i [] = []
-chosen test i (l ∷ ls) = if test l then record { local = i; port = l.port } ∷ chosen test (i + 1) ls else chosen test (i + 1) ls
+chosen test i (l ∷ ls) = chosen_one test i l ++ chosen test (i + 1) ls
 
 -- first those with the wanted port, and then the others
 abbrev pub candidates : List Endpoint → Bool → Address → ℕ → List Candidate
@@ -138,14 +142,18 @@ key_at c a port = record { local = c.local; peer = record { address = a; port = 
 abbrev pub own_session : Key → Place → SessionRequest → OwnSession
 own_session k place r = record { place = place; key = k; timeout = timeout_span r.timeout }
 
--- a key that is taken leaves the next candidate; any other refusal is that of the request
+-- the key is taken
+abbrev pub is_taken : ReserveFault → Bool
+is_taken (Duplicate k) = true
+is_taken (ModeClash k) = true
+is_taken NoKey = false
+is_taken RowsFull = false
+is_taken (Full live reserved retired held) = false
+
+-- that leaves the next candidate; any other refusal is that of the request
 abbrev pub tried : Key → ℕ → SessionRequest → NextAnswer → Plan → Result Place ReserveFault → Plan
 tried k port r next more (Ok place) = next (Reserved place port) (own_session k place r ∷ [])
-tried k port r next more (Err (Duplicate j)) = more
-tried k port r next more (Err (ModeClash j)) = more
-tried k port r next more (Err NoKey) = next (Refused 5) []
-tried k port r next more (Err RowsFull) = next (Refused 5) []
-tried k port r next more (Err (Full live reserved retired held)) = next (Refused 5) []
+tried k port r next more (Err e) = if is_taken e then more else next (Refused 5) []
 
 unfoldable pub try_all : ConfigParts → Extra → Address → SessionRequest → NextAnswer → List Candidate → Plan
 try_all config x a r next [] = next (Refused 5) []
@@ -176,6 +184,11 @@ after_tried (Taken own port) next more = next (Reserved own.place port) (own ∷
 after_tried RefusedAll next more = next (Refused 5) []
 after_tried TriesNext next more = more
 
+abbrev pub tries_next : Tried → Bool
+tries_next (Taken own port) = false
+tries_next RefusedAll = false
+tries_next TriesNext = true
+
 -- ---- a message
 
 -- What becomes of the connection's sessions is known by the stage in which they are
@@ -188,15 +201,20 @@ behind_reply n more gone c row =
     if is_hung_up row.next.stage then hang_up_plan n (stage_behind c row) c.sessions gone
     else more (record c { machine = row.next })
 
-abbrev pub send_reply : ℕ → (ControlSide → Plan) → Plan → ControlSide → Row → List ℕ → Plan
-send_reply n more gone c row [] = behind_reply n more gone c row
-send_reply n more gone c row (b ∷ reply) = send n (b ∷ reply) (behind_reply n more gone c row) (hang_up_plan n (stage_behind c row) c.sessions gone)
+-- a message without octets isn't sent
+abbrev pub send_some : ℕ → List ℕ → Plan → Plan → Plan
+send_some n [] sent failed = sent
+send_some n (b ∷ octets) sent failed = send n (b ∷ octets) sent failed
+
+abbrev pub send_reply : ℕ → (ControlSide → Plan) → Plan → ControlSide → Row → Plan
+send_reply n more gone c row = send_some n row.reply (behind_reply n more gone c row) (hang_up_plan n (stage_behind c row) c.sessions gone)
 
 abbrev pub reply_plan : ℕ → ℕ → (ControlSide → Plan) → Plan → Message → ControlSide → DeskAnswer → Plan
-reply_plan n now more gone m c answer = (let row = row_of c.machine m answer now in send_reply n more gone c row row.reply)
+reply_plan n now more gone m c answer = send_reply n more gone c (row_of c.machine m answer now)
 
 abbrev pub with_own : ControlSide → List OwnSession → ControlSide
-with_own c own = record c { sessions = c.sessions ++ own }
+with_own c [] = c
+with_own c (o ∷ os) = record c { sessions = c.sessions ++ o ∷ os }
 
 abbrev pub without_own : ControlSide → ControlSide
 without_own c = record c { sessions = [] }

@@ -5,3 +5,4 @@ pub mod Operator
 pub mod Connections
 pub mod Control
 pub mod Run
+pub mod Faults

@@ -90,25 +90,34 @@ is_started HungUp = false
 abbrev pub is_idle : ℕ → ControlSide → Bool
 is_idle now c = not (is_started c.machine.stage) && nat_le (c.heard + idle_limit) now
 
--- Each control connection that has given no octet for so long, and isn't started, is hung up. The others stay
-abbrev pub idle_side : ℕ → ℕ → Side → Plan → Plan → Plan
-idle_side now n (Operator held) stays goes = stays
-idle_side now n (Control c) stays goes = if is_idle now c then hang_up_plan n c.machine.stage c.sessions goes else stays
+abbrev pub is_idle_side : ℕ → Side → Bool
+is_idle_side now (Operator held) = false
+is_idle_side now (Control c) = is_idle now c
 
-abbrev pub idle_plan : ℕ → (List OpenConnection → Plan) → List OpenConnection → List OpenConnection → Plan
+abbrev pub hang_up_side : ℕ → Side → Plan → Plan
+hang_up_side n (Operator held) gone = hang_up n gone
+hang_up_side n (Control c) gone = hang_up_plan n c.machine.stage c.sessions gone
+
+-- Each control connection that has given no octet for so long, and isn't started, is hung up, in the order in which they were
+-- opened. The others stay
+unfoldable pub idle_plan : ℕ → (List OpenConnection → Plan) → List OpenConnection → List OpenConnection → Plan
 idle_plan now next kept [] = next kept
-idle_plan now next kept (c ∷ cs) = idle_side now c.number c.side (idle_plan now next (kept ++ c ∷ []) cs) (idle_plan now next kept cs)
+idle_plan now next kept (c ∷ cs) =
+    if is_idle_side now c.side then hang_up_side c.number c.side (idle_plan now next kept cs) else idle_plan now next (kept ++ c ∷ []) cs
 
 -- ---- events
 
 abbrev pub tick_plan : ℕ → (DeskState → Plan) → DeskState → Plan
 tick_plan now next s = tick now (λ t. next s)
 
+abbrev pub ticked_plan : ℕ → (DeskState → Plan) → DeskState → Plan
+ticked_plan now next s = idle_plan now (λ cs. tick_plan now next (at_connections s cs)) [] s.connections
+
 abbrev pub event_plan : Setting → DeskState → ℕ → List ℕ → Next → DeskEvent → Plan
 event_plan f s now octets next (Opened n kind peer local) = opened_plan f s n now kind peer local (next GoesOn) (side_in s.connections n)
 event_plan f s now octets next (Bytes n len) = bytes_plan f s n now octets next (side_in s.connections n)
 event_plan f s now octets next (Closed n) = closed_plan s n (next GoesOn) (side_in s.connections n)
-event_plan f s now octets next Tick = idle_plan now (λ cs. tick_plan now (next GoesOn) (at_connections s cs)) [] s.connections
+event_plan f s now octets next Tick = ticked_plan now (next GoesOn) s
 event_plan f s now octets next End = stop ends.End
 
 -- ---- a run

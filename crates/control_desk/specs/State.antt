@@ -24,6 +24,11 @@ pub record DeskState : Type 0 where
   -- the moment of the desk's first event
   pub started : Option ℕ
 
+-- a desk's room
+pub record Room : Type 0 where
+  pub setting : Setting
+  pub state : DeskState
+
 -- what a desk has at first
 abbrev pub setting_of : File → Setting
 setting_of file = record { locals = file.locals; twamp = file.twamp }

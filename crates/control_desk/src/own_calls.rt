@@ -4,12 +4,12 @@ ghost use Rattle.std.specs.Prelude.{◌≡◌, if◌then◌else◌};
 ghost use Rattle.session_desk.specs.Book.{IsBookOf};
 ghost use Rattle.control_desk.specs.declared.counts.Counts as declared;
 ghost use Rattle.control_desk.specs.Plan.{Plan, Follows, DeskView, live_place};
-ghost use Rattle.control_desk.specs.Control.{start_all, abandon_all, while_own, close_one, close_all, close_one_at, close_all_at, stop_all, end_all, hang_up_plan};
+ghost use Rattle.control_desk.specs.Control.{same_place, start_all, abandon_all, while_own, close_one, close_all, closing_moment, close_one_at, close_all_at, stop_all, end_all, hang_up_plan};
 
 use crate::counts::Counts;
 use crate::own::OwnSession;
 use crate::shown::Shown;
-use session_desk::DeskBook;
+use session_desk::{DeskBook, Place};
 use session_rule::Table;
 use twamp_control::Stage;
 
@@ -42,15 +42,19 @@ pub(crate) fn abandon_sessions<D: Shown>(table: &Table, book: &mut DeskBook, own
     }
 }
 
+fn same_place(a: &Place, b: &Place) -> bool
+    ensures { result ≡ same_place a.now b.now }
+{
+    a.slot == b.slot && a.generation == b.generation
+}
+
 /// Whether a started session is the connection's still.
 fn is_own<D: Shown>(table: &Table, book: &DeskBook, session: &OwnSession) -> bool
     ensures { (d : DeskView D.Setup) (n : declared.Counts) (act more : Plan) →
         Follows table.now (live_place session.now.key (while_own session.now act more)) (if result then act else more) d d book.now book.now n n }
 {
     match book.live_place(&session.key) {
-        Some(place) => {
-            place.slot == session.place.slot && place.generation == session.place.generation
-        }
+        Some(place) => same_place(&place, &session.place),
         None => false,
     }
 }
@@ -70,8 +74,9 @@ fn close_session<D: Shown>(
     if !is_own::<D>(table, book, session) {
         return;
     }
-    if book.close(table, &session.key).is_ok() {
-        counts.add_closed();
+    match book.close(table, &session.key) {
+        Ok(_) => counts.add_closed(),
+        Err(_) => {}
     }
 }
 
@@ -92,6 +97,13 @@ pub(crate) fn close_sessions<D: Shown>(
     }
 }
 
+/// The moment at which a session ends that a Stop-Sessions stopped now.
+fn closing_moment(now: u64, session: &OwnSession) -> u64
+    ensures { result ≡ closing_moment now session.now }
+{
+    now.saturating_add(session.timeout)
+}
+
 /// Sets the closing moment of a started session, where it is the connection's.
 fn close_session_at<D: Shown>(table: &Table, book: &mut DeskBook, now: u64, session: &OwnSession)
     requires book { IsBookOf table.now book.old }
@@ -100,7 +112,7 @@ fn close_session_at<D: Shown>(table: &Table, book: &mut DeskBook, now: u64, sess
         Follows table.now (close_one_at now session.now more) more d d book.old book.new n n }
 {
     if is_own::<D>(table, book, session) {
-        let moment = now.saturating_add(session.timeout);
+        let moment = closing_moment(now, session);
         let _answer = book.close_at(&session.key, moment);
     }
 }

@@ -21,12 +21,15 @@ ghost use Rattle.control_desk.specs.Control.{
   receives,
   is_candidate,
   is_served,
+  chosen_one,
   chosen,
   candidates,
   reserved_wait,
   extra_of,
   key_at,
+  is_taken,
   tried,
+  tries_next,
   try_all,
   after_tried,
   under_twamp,
@@ -157,7 +160,7 @@ fn extra_of(mode: u32, request: &Request) -> Extra
 
 /// The key of a session at a local.
 fn key_at(local: u16, from: &Address, port: u16) -> Key
-    ensures { (to_port : _) → result ≡ key_at (record { local = local; port = to_port }) from.now port }
+    ensures { result ≡ key_at (record { local = local; port = 0 }) from.now port }
 {
     Key {
         local,
@@ -167,6 +170,29 @@ fn key_at(local: u16, from: &Address, port: u16) -> Key
         },
         mode: Mode::Twamp,
         ssid: 0,
+    }
+}
+
+/// Whether the key is taken, which leaves the next candidate.
+fn is_taken(fault: &ReserveFault) -> bool
+    ensures { result ≡ is_taken fault.now }
+{
+    match fault {
+        ReserveFault::Duplicate(_) => true,
+        ReserveFault::ModeClash(_) => true,
+        ReserveFault::NoKey => false,
+        ReserveFault::RowsFull => false,
+        ReserveFault::Full { .. } => false,
+    }
+}
+
+fn tries_next(tried: &Tried) -> bool
+    ensures { result ≡ tries_next tried.now }
+{
+    match tried {
+        Tried::Taken { .. } => false,
+        Tried::RefusedAll => false,
+        Tried::TriesNext => true,
     }
 }
 
@@ -197,11 +223,40 @@ fn try_one<D: Shown>(
             };
             Tried::Taken { own, port }
         }
-        Err(ReserveFault::Duplicate(_) | ReserveFault::ModeClash(_)) => Tried::TriesNext,
-        Err(ReserveFault::NoKey | ReserveFault::RowsFull | ReserveFault::Full { .. }) => {
+        Err(fault) => {
+            if is_taken(&fault) {
+                return Tried::TriesNext;
+            }
             Tried::RefusedAll
         }
     }
+}
+
+/// Tries a local, if it is a candidate.
+fn try_local<D: Shown>(
+    table: &Table,
+    book: &mut DeskBook,
+    config: &Config,
+    extra: &Extra,
+    from: &Address,
+    to: &Address,
+    request: &Request,
+    number: u16,
+    local: &LocalAddr,
+    wanted: bool,
+) -> Tried
+    requires book { IsBookOf table.now book.old }
+    ensures book { IsBookOf table.now book.new }
+    ensures done { (d : DeskView D.Setup) (n : declared.Counts) (next : NextAnswer) (rest : List Candidate) →
+        Follows table.now (try_all config.now extra.now from.now request.now next (chosen_one (is_candidate request.now.v6 to.now request.now.receiver_port wanted) number local.now ++ rest))
+            (after_tried result next (try_all config.now extra.now from.now request.now next rest)) d d book.old book.new n n }
+{
+    if !is_candidate(request.v6, to, request.receiver_port, wanted, local) {
+        return Tried::TriesNext;
+    }
+    try_one::<D>(
+        table, book, config, extra, from, request, number, local.port,
+    )
 }
 
 /// Tries the candidates with the wanted port, or those with another, in the order of the locals.
@@ -224,20 +279,18 @@ fn try_locals<D: Shown>(
             (after_tried result next (try_all config.now extra.now from.now request.now next rest)) d d book.old book.new n n }
 {
     for (i, local) in locals.iter().enumerate() {
-        if is_candidate(request.v6, to, request.receiver_port, wanted, local) {
-            match try_one::<D>(
-                table, book, config, extra, from, request, i as u16, local.port,
-            ) {
-                Tried::TriesNext => {}
-                other => return other,
-            }
+        let tried = try_local::<D>(
+            table, book, config, extra, from, to, request, i as u16, local, wanted,
+        );
+        if !tries_next(&tried) {
+            return tried;
         }
     }
     Tried::TriesNext
 }
 
 /// Tries all candidates.
-fn try_all<D: Shown>(
+fn try_candidates<D: Shown>(
     table: &Table,
     book: &mut DeskBook,
     config: &Config,
@@ -254,14 +307,15 @@ fn try_all<D: Shown>(
         Follows table.now (try_all config.now extra.now from.now request.now next (candidates locals.now request.now.v6 to.now request.now.receiver_port))
             (after_tried result next (next (answers.Refused 5) [])) d d book.old book.new n n }
 {
-    match try_locals::<D>(
+    let tried = try_locals::<D>(
         table, book, config, extra, from, to, request, locals, true,
-    ) {
-        Tried::TriesNext => try_locals::<D>(
-            table, book, config, extra, from, to, request, locals, false,
-        ),
-        other => other,
+    );
+    if !tries_next(&tried) {
+        return tried;
     }
+    try_locals::<D>(
+        table, book, config, extra, from, to, request, locals, false,
+    )
 }
 
 /// Reserves a session for a request.
@@ -277,6 +331,7 @@ pub(crate) fn reserve_session<D: Shown>(
     requires few { length locals.now ≤ 16 }
     ensures book { IsBookOf table.now book.new }
     ensures fits { IsTrue (fits (ask.Reserve request.now) result) }
+    ensures machine { side.new.machine ≡ side.old.machine }
     ensures done { (f : Setting) (d : DeskView D.Setup) (n : declared.Counts) (next : DeclaredAnswer → DeclaredSide → Plan) →
         f.locals ≡ locals.now → f.twamp ≡ twamp.now →
         Follows table.now (request_plan f side.old request.now (λ answer own. next answer (with_own side.old own))) (next result side.new) d d book.old book.new n n }
@@ -293,7 +348,7 @@ pub(crate) fn reserve_session<D: Shown>(
         return DeskAnswer::Refused(NOT_SUPPORTED);
     }
     let extra = extra_of(side.machine.mode(), request);
-    match try_all::<D>(table, book, config, &extra, &from, &to, request, locals) {
+    match try_candidates::<D>(table, book, config, &extra, &from, &to, request, locals) {
         Tried::Taken { own, port } => {
             side.sessions.push(own);
             DeskAnswer::Reserved {
@@ -301,6 +356,7 @@ pub(crate) fn reserve_session<D: Shown>(
                 port,
             }
         }
-        Tried::RefusedAll | Tried::TriesNext => DeskAnswer::Refused(TEMPORARY_LIMIT),
+        Tried::RefusedAll => DeskAnswer::Refused(TEMPORARY_LIMIT),
+        Tried::TriesNext => DeskAnswer::Refused(TEMPORARY_LIMIT),
     }
 }
