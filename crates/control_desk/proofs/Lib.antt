@@ -6,3 +6,5 @@ pub mod OwnFacts
 pub mod RequestFacts
 pub mod TalkFacts
 pub mod IndexFacts
+pub mod RunFacts
+pub mod IdleFacts

@@ -7,7 +7,7 @@ use Rattle.refl_types.specs.declared.outcome.Place.{Place}
 use Rattle.port_io.specs.Outside.{Rises}
 use Rattle.net_io.specs.declared.desk.Timed.{Timed}
 use Rattle.net_io.specs.Log.{Grows}
-use Rattle.net_io.specs.Desk.{DeskEntry, octet_count, open_failed, gave, next_failed, sent, send_failed, hung_up}
+use Rattle.net_io.specs.Desk.{DeskEntry, octet_count, gave, next_failed, sent, send_failed, hung_up}
 use Rattle.session_rule.specs.declared.seats.Table.{Table}
 use Rattle.session_desk.specs.declared.session.NoSuch.{NoSuch}
 use Rattle.session_desk.specs.declared.session.ReserveFault.{ReserveFault}
@@ -117,11 +117,10 @@ pub record DeskView (S : Type 0) : Type 0 where
   -- how often it has failed
   pub faults : ℕ
 
--- its count of faults rises with each failure, and stays otherwise
+-- its count of faults rises with each failure of a run, and stays otherwise
 abbrev pub Fails : DeskEntry → ℕ → ℕ → Type 0
 Fails next_failed old new = Rises old new
 Fails (send_failed n octets) old new = Rises old new
-Fails open_failed old new = Rises old new
 Fails _ old new = new ≡ old
 
 -- the desk goes on by an entry

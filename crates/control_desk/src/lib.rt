@@ -2,7 +2,10 @@
 #![tactic(auto)]
 
 mod answering;
+mod connections;
 mod counts;
+mod desk_room;
+mod hearing;
 mod line_buffer;
 mod lines;
 mod names;
@@ -12,8 +15,12 @@ mod own_calls;
 mod piece;
 mod requests;
 mod room;
+mod running;
 mod shown;
 mod sides;
+mod talking;
 mod tallying;
+mod ticking;
 
 pub use counts::{DeskEnd, DeskTally};
+pub use desk_room::{DeskRoom, run_desk};

@@ -89,12 +89,12 @@ fn hang_up_idle<D: Shown>(
 {
     let mut at = 0;
     while at < places.connections.len() {
-        if is_idle_side(now, &places.connections[at].side) {
-            let gone = places.connections.remove(at);
-            hang_up_side(table, book, desk, counts, &gone);
-        } else {
+        if !is_idle_side(now, &places.connections[at].side) {
             at += 1;
+            continue;
         }
+        let gone = places.connections.remove(at);
+        hang_up_side(table, book, desk, counts, &gone);
     }
 }
 

@@ -1,0 +1,31 @@
+use Rattle.std.proofs.Common.{◌≡◌, List, ℕ, refl, sym, ap, ◌∙◌}
+use Rattle.twamp_control.specs.Connection.{Connection, opened}
+use Rattle.control_msgs.specs.Layout.{greeting}
+use Rattle.control_desk.specs.declared.own.OwnSession.{OwnSession}
+use Rattle.control_desk.specs.declared.sides.Side.{Side}
+use Rattle.control_desk.specs.declared.sides.Side.TheVariants.{Control}
+use Rattle.control_desk.specs.State.{DeskState, with_connection}
+use Rattle.control_desk.specs.Connections.{state_of}
+use Rattle.control_desk.specs.Plan.{Plan, send, hang_up}
+use Rattle.control_desk.specs.Run.{control_side, start_of}
+use Rattle.control_desk.proofs.Following.{follows_as, follows_to, follows_then}
+use Rattle.control_desk.proofs.hearing.greet_client.Goals as goal
+
+pub returns-then-not-tell : goal.returns-then-not-tell
+returns-then-not-tell g c = λ t next b.
+    let a = c.args in
+    let s = state_of a.places.now in
+    let kept = next (with_connection s a.conn (Control (control_side s a.now a.peer.now a.local.now))) in
+    let gone = hang_up a.conn (next s) in
+    follows_as (ap (λ (o : List ℕ). send a.conn o kept gone) (sym c.write_greeting.ensures))
+    (follows_then (c.if-not-tell.ensures t kept gone b) (c.drop_line.ensures t (next s) b _))
+
+pub returns : goal.returns
+returns g c = λ t next b.
+    let a = c.args in
+    let s = state_of a.places.now in
+    let kept = next (with_connection s a.conn (Control (control_side s a.now a.peer.now a.local.now))) in
+    let gone = hang_up a.conn (next s) in
+    follows_as (ap (λ (o : List ℕ). send a.conn o kept gone) (sym c.write_greeting.ensures))
+    (follows_to ?
+    (c.if-not-tell.ensures t kept gone b))
