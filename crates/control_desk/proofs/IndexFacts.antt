@@ -127,12 +127,21 @@ take_remove [] i h = absurd (omega arith)
 take_remove (c ∷ l) zero h = refl
 take_remove (c ∷ l) (suc i) h = ap (λ (r : List OpenConnection). c ∷ r) (take_remove l i (omega (arith, h)))
 
+next_drop : (l : List OpenConnection) (i : ℕ) → drop (suc i) l ≡ drop (i + 1) l
+next_drop l i = let e : suc i ≡ i + 1 = omega arith in ap (λ (k : ℕ). drop k l) e
+
+removed : (l : List OpenConnection) (i : ℕ) → i < length l → drop i (remove l i) ≡ drop (suc i) l
+removed [] i h = absurd (omega arith)
+removed (c ∷ l) zero h = refl
+removed (c ∷ l) (suc i) h = removed l i (omega (arith, h))
+
 pub drop_remove : (l : List OpenConnection) (i : ℕ) → i < length l → drop i (remove l i) ≡ drop (i + 1) l
-drop_remove [] i h = absurd (omega arith)
-drop_remove (c ∷ l) zero h = refl
-drop_remove (c ∷ l) (suc i) h = drop_remove l i (omega (arith, h))
+drop_remove l i h = removed l i h ∙ next_drop l i
+
+taken : (l : List OpenConnection) (i : ℕ) (d : OpenConnection) → i < length l → take i l ++ get_or l i d ∷ [] ≡ take (suc i) l
+taken [] i d h = absurd (omega arith)
+taken (c ∷ l) zero d h = refl
+taken (c ∷ l) (suc i) d h = ap (λ (r : List OpenConnection). c ∷ r) (taken l i d (omega (arith, h)))
 
 pub take_more : (l : List OpenConnection) (i : ℕ) (d : OpenConnection) → i < length l → take i l ++ get_or l i d ∷ [] ≡ take (i + 1) l
-take_more [] i d h = absurd (omega arith)
-take_more (c ∷ l) zero d h = refl
-take_more (c ∷ l) (suc i) d h = ap (λ (r : List OpenConnection). c ∷ r) (take_more l i d (omega (arith, h)))
+take_more l i d h = let e : suc i ≡ i + 1 = omega arith in taken l i d h ∙ ap (λ (k : ℕ). take k l) e

@@ -3,16 +3,20 @@ use Rattle.std.proofs.Common.{◌≡◌, ℕ, zero, suc, List, ◌+◌, ◌-◌,
 use Rattle.std.proofs.Math.Seq.{drop-cons}
 use Rattle.std.specs.Option.{is_some}
 use Rattle.refl_types.specs.declared.config.ConfigParts.{ConfigParts}
-use Rattle.control_desk.specs.declared.lines.Refusal.TheVariants as refusals
-use Rattle.control_desk.specs.declared.lines.Answer.TheVariants.{Number, Refused}
+use Rattle.operator_lines.specs.declared.answer.Refusal.TheVariants as refusals
+use Rattle.operator_lines.specs.declared.answer.Answer.TheVariants.{Number, Refused}
 use Rattle.control_desk.specs.declared.counts.Verdict.{Verdict}
 use Rattle.control_desk.specs.declared.counts.Verdict.TheVariants.{GoesOn, Over, Quits}
 use Rattle.control_desk.specs.State.{Setting, DeskState, with_name, with_side, without, settled}
 use Rattle.control_desk.specs.declared.sides.Side.TheVariants.{Operator}
-use Rattle.control_desk.specs.Lines.{line_from, answer_text}
+use Rattle.operator_lines.specs.Reading.{line_from}
+use Rattle.operator_lines.specs.Answers.{answer_text}
 use Rattle.control_desk.proofs.Choices.{if_true, if_false}
 use Rattle.control_desk.specs.Plan.{Plan, live_at, send, hang_up}
-use Rattle.control_desk.specs.Operator.{Next, say, refuse, new_name, name_limit, list_from, list_key, operator_plan, line_limit, read_plan, behind_line, behind_octet}
+use Rattle.operator_lines.specs.declared.line.Line.{Line}
+use Rattle.operator_lines.specs.declared.line.Line.TheVariants as lines
+use Rattle.operator_lines.specs.Lines.{IsLine}
+use Rattle.control_desk.specs.Operator.{HasSoundKey, Next, say, refuse, new_name, name_limit, list_from, list_key, operator_plan, line_limit, read_plan, behind_line, behind_octet}
 
 pub known_name : (n : ℕ) (s : DeskState) (name : List ℕ) (c : ConfigParts) (next : Next) (o : Option ConfigParts)
     → is_some o ≡ true → new_name n s name c next o ≡ refuse n refusals.Exists s next
@@ -62,3 +66,13 @@ no_octet f n now s next held = refl
 
 pub next_octet : (l : List ℕ) (i : ℕ) → i < length l → drop i l ≡ get_or l i 0 ∷ drop (i + 1) l
 next_octet l i h = let e : suc i ≡ i + 1 = omega arith in drop-cons l i 0 h ∙ ap (λ (j : ℕ). get_or l i 0 ∷ drop j l) e
+
+-- a text that is a line names a sound key alone
+pub line_sound : (s : List ℕ) (line : Line) → IsLine s line → HasSoundKey line
+line_sound s (lines.Open k name wait) h = (h.1).3.sound
+line_sound s (lines.Config name octets) h = tt
+line_sound s (lines.Set k name) h = tt
+line_sound s (lines.Close k) h = tt
+line_sound s (lines.Count k) h = tt
+line_sound s lines.List h = tt
+line_sound s lines.Quit h = tt

@@ -1,5 +1,5 @@
 -- One call of feed, seen from the plan of a control connection's octets.
-use Rattle.std.proofs.Common.{◌≡◌, ℕ, suc, ◌<◌, inl, inr, List, [], ◌∷◌, ◌++◌, length, take, drop, Some, None, refl, sym, ap, subst, ◌∙◌, arith}
+use Rattle.std.proofs.Common.{◌≡◌, ℕ, zero, suc, ◌<◌, inl, inr, List, [], ◌∷◌, ◌++◌, length, take, drop, Some, None, refl, sym, ap, subst, ◌∙◌, arith}
 use Rattle.std.proofs.lemmas.List.{append-nil, take-append-drop, take_all}
 use Rattle.twamp_control.specs.declared.types.Message.{Message}
 use Rattle.twamp_control.specs.Connection.{Connection, Feeds, connection_after, messages_in}
@@ -71,7 +71,7 @@ module _ (f : Setting) (n now : ℕ) (more : ControlSide → Plan) (gone : Plan)
   fed_none c m new piece k h =
       let all : take k piece ≡ piece = take_all k piece (omega (arith, h.all)) in
       ap (control_plan f n now more gone (with_machine c now m)) (sym (append-nil piece))
-      ∙ quiet piece c m [] (h.none.0 tt)
+      ∙ quiet piece c m [] (h.none.0 refl)
       ∙ ends (with_machine c now (connection_after m piece))
       ∙ ap (λ (d : Connection). more (with_machine c now d)) (ap (connection_after m) (sym all) ∙ sym h.after)
 
@@ -91,5 +91,5 @@ taken_zero m new piece k x h e =
     absurd cc
 
 pub takes_some : (m new : Connection) (piece : List ℕ) (k : ℕ) (x : Message) → Feeds m new piece k (Some x) → 0 < k
-takes_some m new piece 0 x h = absurd (taken_zero m new piece 0 x h refl)
+takes_some m new piece zero x h = absurd (taken_zero m new piece zero x h refl)
 takes_some m new piece (suc k) x h = omega arith

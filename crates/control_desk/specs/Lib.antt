@@ -1,4 +1,3 @@
-pub mod Lines
 pub mod State
 pub mod Plan
 pub mod Operator

@@ -1,7 +1,10 @@
 -- What the lines of an operator do (this project's own): the calls of each line, in their order, and its answers.
-use Rattle.std.specs.Prelude.{ℕ, zero, suc, ◌+◌, Bool, true, false, ◌==◌, nat_le, if◌then◌else◌, List, [], ◌∷◌, ◌++◌, length, Option, Some, None, Result, Ok, Err}
+use Rattle.std.specs.Prelude.{◌≡◌, ℕ, zero, suc, ◌+◌, Bool, true, false, ◌==◌, nat_le, if◌then◌else◌, List, [], ◌∷◌, ◌++◌, length, Option, Some, None, Result, Ok, Err}
 use Rattle.refl_types.specs.declared.types.Key.{Key}
-use Rattle.control_desk.specs.Lines.{no_extra, line_from, answer_text}
+use Rattle.refl_types.specs.Keys.{is_sound}
+use Rattle.operator_lines.specs.Lines.{no_extra}
+use Rattle.operator_lines.specs.Reading.{line_from}
+use Rattle.operator_lines.specs.Answers.{answer_text}
 use Rattle.refl_types.specs.declared.config.ConfigParts.{ConfigParts}
 use Rattle.refl_types.specs.declared.outcome.Place.{Place}
 use Rattle.session_desk.specs.declared.session.NoSuch.{NoSuch}
@@ -9,12 +12,12 @@ use Rattle.session_desk.specs.declared.session.ReserveFault.{ReserveFault}
 use Rattle.session_desk.specs.declared.session.ReserveFault.TheVariants as reserve_faults
 use Rattle.session_desk.specs.declared.session.SetFault.{SetFault}
 use Rattle.session_desk.specs.declared.session.SetFault.TheVariants as set_faults
-use Rattle.control_desk.specs.declared.lines.Line.{Line}
-use Rattle.control_desk.specs.declared.lines.Line.TheVariants as lines
-use Rattle.control_desk.specs.declared.lines.Answer.{Answer}
-use Rattle.control_desk.specs.declared.lines.Answer.TheVariants.{Done, Number, Listed, Bye, Refused}
-use Rattle.control_desk.specs.declared.lines.Refusal.{Refusal}
-use Rattle.control_desk.specs.declared.lines.Refusal.TheVariants as refusals
+use Rattle.operator_lines.specs.declared.line.Line.{Line}
+use Rattle.operator_lines.specs.declared.line.Line.TheVariants as lines
+use Rattle.operator_lines.specs.declared.answer.Answer.{Answer}
+use Rattle.operator_lines.specs.declared.answer.Answer.TheVariants.{Done, Number, Listed, Bye, Refused}
+use Rattle.operator_lines.specs.declared.answer.Refusal.{Refusal}
+use Rattle.operator_lines.specs.declared.answer.Refusal.TheVariants as refusals
 use Rattle.control_desk.specs.declared.counts.Verdict.{Verdict}
 use Rattle.control_desk.specs.declared.counts.Verdict.TheVariants.{GoesOn, Over, Quits}
 use Rattle.control_desk.specs.Plan.{Plan, send, hang_up, reserve, start, set, close, count, live_len, live_at}
@@ -47,6 +50,11 @@ set_refusal set_faults.NoKey = refusals.NoKey
 set_refusal set_faults.RowsFull = refusals.RowsFull
 
 -- ---- the lines
+
+-- a line names sound keys alone
+abbrev pub HasSoundKey : Line → Type 0
+HasSoundKey (lines.Open k name wait) = is_sound k no_extra ≡ true
+HasSoundKey _ = Unit {0}
 
 -- the configuration that the octets of a line are
 abbrev pub config_read : Result (ConfigParts × List ℕ) Unread → Option ConfigParts

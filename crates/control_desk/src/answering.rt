@@ -3,13 +3,13 @@
 ghost use Rattle.std.specs.Prelude.{◌≡◌, if◌then◌else◌};
 ghost use Rattle.session_rule.specs.declared.seats.Table.{Table};
 ghost use Rattle.session_desk.specs.Book.{Book};
-ghost use Rattle.control_desk.specs.Lines.{answer_text};
+ghost use Rattle.operator_lines.specs.Answers.{answer_text};
 ghost use Rattle.control_desk.specs.State.{DeskState, settled};
 ghost use Rattle.control_desk.specs.Plan.{Plan, Follows, send};
 ghost use Rattle.control_desk.specs.Operator.{Next, say};
 
 use crate::counts::{Counts, Verdict};
-use crate::lines::{Answer, write_answer};
+use operator_lines::{Answer, write_answer};
 use crate::shown::Shown;
 
 /// Sends a line, and says whether it was sent.

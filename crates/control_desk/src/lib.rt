@@ -7,7 +7,6 @@ mod counts;
 mod desk_room;
 mod hearing;
 mod line_buffer;
-mod lines;
 mod names;
 mod operator;
 mod own;

@@ -4,7 +4,9 @@ ghost use Rattle.std.specs.Prelude.{◌≡◌, true, if◌then◌else◌};
 ghost use Rattle.refl_types.specs.Keys.{is_sound};
 ghost use Rattle.session_rule.specs.declared.seats.Table.{Table};
 ghost use Rattle.session_desk.specs.Book.{Book, IsBookOf};
-ghost use Rattle.control_desk.specs.Lines.{HasSoundKey, no_extra, line_from};
+ghost use Rattle.control_desk.specs.Operator.{HasSoundKey};
+ghost use Rattle.operator_lines.specs.Lines.{no_extra};
+ghost use Rattle.operator_lines.specs.Reading.{line_from};
 ghost use Rattle.control_desk.specs.State.{Setting, DeskState, settled, at_names, without, config_in};
 ghost use Rattle.control_desk.specs.Plan.{Plan, Follows, close, count, reserve, live_at, live_len};
 ghost use Rattle.control_desk.specs.Operator.{
@@ -27,7 +29,7 @@ ghost use Rattle.control_desk.specs.declared.counts.Verdict.TheVariants.{Over, Q
 
 use crate::answering::{answer, send_line};
 use crate::counts::{Counts, Verdict};
-use crate::lines::{Answer, Line, Refusal, read_line};
+use operator_lines::{Answer, Line, Refusal, read_line};
 use crate::names::Names;
 use crate::shown::Shown;
 use refl_types::{Config, Extra, Key, LocalAddr};

@@ -1,6 +1,6 @@
 //! What the messages of a control connection do.
 
-ghost use Rattle.std.specs.Prelude.{◌≡◌, ◌≤◌, [], ◌∷◌, List, length, IsTrue, if◌then◌else◌};
+ghost use Rattle.std.specs.Prelude.{◌≡◌, ◌≤◌, [], ◌∷◌, List, length, drop, IsTrue, if◌then◌else◌};
 ghost use Rattle.twamp_control.specs.Connection.{unless_hung_up};
 ghost use Rattle.twamp_control.specs.Table.{ask_of, fits};
 ghost use Rattle.session_rule.specs.declared.seats.Table.{Table};
@@ -116,8 +116,8 @@ fn hear_message<D: Shown>(
             )
         }
         Ask::StopAll { .. } => {
-            let stage = side.machine.stage();
-            stop_sessions::<D>(table, book, now, stage, side.sessions.list());
+            let current = side.machine.stage();
+            stop_sessions::<D>(table, book, now, current, side.sessions.list());
             side.sessions.clear();
             reply(
                 table,
@@ -156,6 +156,14 @@ fn hear_message<D: Shown>(
     }
 }
 
+/// The octets from a place on.
+fn rest_of(octets: &[u8], at: usize) -> &[u8]
+    requires { at ≤ length octets.now }
+    ensures { result.now ≡ drop at octets.now }
+{
+    &octets[at..]
+}
+
 /// Takes octets of a control connection, until it is hung up. Whether it goes on.
 pub(crate) fn hear_control<D: Shown>(
     locals: &[LocalAddr],
@@ -178,7 +186,7 @@ pub(crate) fn hear_control<D: Shown>(
     let mut at = 0;
     while at < octets.len() {
         side.heard = now;
-        let (taken, maybe) = side.machine.feed(&octets[at..]);
+        let (taken, maybe) = side.machine.feed(rest_of(octets, at));
         at += taken;
         let Some(message) = maybe else {
             return true;

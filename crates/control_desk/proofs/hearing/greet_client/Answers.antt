@@ -19,13 +19,3 @@ returns-then-not-tell g c = λ t next b.
     let gone = hang_up a.conn (next s) in
     follows_as (ap (λ (o : List ℕ). send a.conn o kept gone) (sym c.write_greeting.ensures))
     (follows_then (c.if-not-tell.ensures t kept gone b) (c.drop_line.ensures t (next s) b _))
-
-pub returns : goal.returns
-returns g c = λ t next b.
-    let a = c.args in
-    let s = state_of a.places.now in
-    let kept = next (with_connection s a.conn (Control (control_side s a.now a.peer.now a.local.now))) in
-    let gone = hang_up a.conn (next s) in
-    follows_as (ap (λ (o : List ℕ). send a.conn o kept gone) (sym c.write_greeting.ensures))
-    (follows_to ?
-    (c.if-not-tell.ensures t kept gone b))

@@ -1,7 +1,7 @@
 use Rattle.std.proofs.Common.{◌≡◌, List, Option, Some, None, sym, ap, ◌∙◌}
 use Rattle.refl_types.specs.declared.config.ConfigParts.{ConfigParts}
-use Rattle.control_desk.specs.declared.lines.Refusal.TheVariants as refusals
-use Rattle.control_desk.specs.declared.lines.Answer.TheVariants.{Done}
+use Rattle.operator_lines.specs.declared.answer.Refusal.TheVariants as refusals
+use Rattle.operator_lines.specs.declared.answer.Answer.TheVariants.{Done}
 use Rattle.control_desk.specs.State.{DeskState, at_names, with_name, config_in}
 use Rattle.control_desk.specs.Operator.{name_config, new_name, say, refuse}
 use Rattle.control_desk.proofs.Following.{follows_as}

@@ -3,7 +3,11 @@ use Rattle.std.specs.Result.{result_ok}
 use Rattle.control_desk.specs.State.{at_names}
 use Rattle.control_desk.specs.Operator.{read_plan}
 use Rattle.control_desk.proofs.Following.{follows_as}
+use Rattle.control_desk.proofs.OperatorFacts.{line_sound}
 use Rattle.control_desk.proofs.operator.hear_line.Goals as goal
+
+pub do_line-requires-clause-sound : goal.do_line-requires-clause-sound
+do_line-requires-clause-sound g c = line_sound _ c.in-Ok.line c.in-Ok.ensures.is_line
 
 pub returns-in-Err-clause-done : goal.returns-in-Err-clause-done
 returns-in-Err-clause-done g c = λ f s next locals.

@@ -1,6 +1,6 @@
 use Rattle.std.proofs.Common.{◌≡◌, List, refl, sym, ap, ◌∙◌, subst, length, leb, true, false, arith}
 use Rattle.refl_types.specs.declared.types.Endpoint.{Endpoint}
-use Rattle.control_desk.specs.declared.lines.Refusal.TheVariants as refusals
+use Rattle.operator_lines.specs.declared.answer.Refusal.TheVariants as refusals
 use Rattle.control_desk.specs.State.{at_names, config_in}
 use Rattle.control_desk.specs.Operator.{open_under, refuse}
 use Rattle.control_desk.proofs.Following.{follows_as}

@@ -1,8 +1,8 @@
 use Rattle.std.proofs.Common.{refl, sym, ap, Ok, Err}
 use Rattle.session_desk.specs.Makes.{reserves, starts}
-use Rattle.control_desk.specs.Lines.{no_extra}
-use Rattle.control_desk.specs.declared.lines.Answer.TheVariants.{Done}
-use Rattle.control_desk.specs.declared.lines.Refusal.{Refusal}
+use Rattle.operator_lines.specs.Lines.{no_extra}
+use Rattle.operator_lines.specs.declared.answer.Answer.TheVariants.{Done}
+use Rattle.operator_lines.specs.declared.answer.Refusal.{Refusal}
 use Rattle.control_desk.specs.Plan.{reserve, start}
 use Rattle.control_desk.specs.Operator.{reserved_plan, say, refuse}
 use Rattle.control_desk.proofs.Following.{follows_as, follows_called, follows_then}

@@ -1,5 +1,5 @@
 use Rattle.std.proofs.Common.{Ok, Err, refl, sym, ap, ◌∙◌}
-use Rattle.control_desk.specs.declared.lines.Refusal.{Refusal}
+use Rattle.operator_lines.specs.declared.answer.Refusal.{Refusal}
 use Rattle.session_desk.specs.Makes.{sets}
 use Rattle.control_desk.specs.State.{at_names}
 use Rattle.control_desk.specs.Plan.{set}

@@ -1,6 +1,6 @@
 use Rattle.std.proofs.Common.{◌≡◌, ℕ, List, [], ◌∷◌, ◌++◌, refl, sym, ap, ◌∙◌}
 use Rattle.control_desk.specs.declared.counts.Verdict.TheVariants.{Over}
-use Rattle.control_desk.specs.Lines.{line_from}
+use Rattle.operator_lines.specs.Reading.{line_from}
 use Rattle.control_desk.specs.State.{at_names, without}
 use Rattle.control_desk.specs.Plan.{hang_up}
 use Rattle.control_desk.specs.Operator.{operator_plan, read_plan, behind_line, behind_octet}

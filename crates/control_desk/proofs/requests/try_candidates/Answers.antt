@@ -23,4 +23,4 @@ returns-clause-done g c = λ d n next.
     follows_then
     (follows_to (goes_on c.try_locals-tried.result next (plan others) (sym c.tries_next.ensures ∙ c.if-not-tries_next.false) ∙ ap plan (sym (append-nil others)))
     (c.try_locals-tried.ensures.done d n next others))
-    (follows_to (ap (after_tried c.try_locals-2.result next) (try_none _ _ _ _ _)) (c.try_locals-2.ensures.done d n next []))
+    (follows_to (ap (after_tried c.try_locals.result next) (try_none _ _ _ _ _)) (c.try_locals.ensures.done d n next []))
