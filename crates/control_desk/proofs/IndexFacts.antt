@@ -145,3 +145,8 @@ taken (c ∷ l) (suc i) d h = ap (λ (r : List OpenConnection). c ∷ r) (taken 
 
 pub take_more : (l : List OpenConnection) (i : ℕ) (d : OpenConnection) → i < length l → take i l ++ get_or l i d ∷ [] ≡ take (i + 1) l
 take_more l i d h = let e : suc i ≡ i + 1 = omega arith in taken l i d h ∙ ap (λ (k : ℕ). take k l) e
+
+pub length_remove : (l : List OpenConnection) (i : ℕ) → i < length l → length (remove l i) + 1 ≡ length l
+length_remove [] i h = absurd (omega arith)
+length_remove (c ∷ l) zero h = omega arith
+length_remove (c ∷ l) (suc i) h = omega (arith, length_remove l i (omega (arith, h)))

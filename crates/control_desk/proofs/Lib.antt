@@ -8,3 +8,4 @@ pub mod TalkFacts
 pub mod IndexFacts
 pub mod RunFacts
 pub mod IdleFacts
+pub mod Samples

@@ -9,8 +9,8 @@ ghost use Rattle.control_desk.specs.Plan.{Plan, Follows, send};
 ghost use Rattle.control_desk.specs.Operator.{Next, say};
 
 use crate::counts::{Counts, Verdict};
-use operator_lines::{Answer, write_answer};
 use crate::shown::Shown;
+use operator_lines::{Answer, write_answer};
 
 /// Sends a line, and says whether it was sent.
 pub(crate) fn send_line<D: Shown>(

@@ -162,7 +162,12 @@ pub(crate) fn hear_bytes<D: Shown>(
 }
 
 /// What the end of a connection does with its sessions.
-fn end_side<D: Shown>(table: &Table, book: &mut DeskBook, counts: &mut Counts, gone: &OpenConnection)
+fn end_side<D: Shown>(
+    table: &Table,
+    book: &mut DeskBook,
+    counts: &mut Counts,
+    gone: &OpenConnection,
+)
     requires book { IsBookOf table.now book.old }
     ensures book { IsBookOf table.now book.new }
     ensures done { (d : DeskView D.Setup) (s : DeskState) (n : ℕ) (next : DeskState → Plan) →
@@ -171,7 +176,13 @@ fn end_side<D: Shown>(table: &Table, book: &mut DeskBook, counts: &mut Counts, g
     match &gone.side {
         Side::Operator(_) => {}
         Side::Control(talk) => {
-            end_sessions::<D>(table, book, counts, talk.machine.stage(), talk.sessions.list())
+            end_sessions::<D>(
+                table,
+                book,
+                counts,
+                talk.machine.stage(),
+                talk.sessions.list(),
+            )
         }
     }
 }

@@ -29,9 +29,9 @@ ghost use Rattle.control_desk.specs.declared.counts.Verdict.TheVariants.{Over, Q
 
 use crate::answering::{answer, send_line};
 use crate::counts::{Counts, Verdict};
-use operator_lines::{Answer, Line, Refusal, read_line};
 use crate::names::Names;
 use crate::shown::Shown;
+use operator_lines::{Answer, Line, Refusal, read_line};
 use refl_types::{Config, Extra, Key, LocalAddr};
 use session_desk::{DeskBook, ReserveFault, SetFault};
 use session_octets::config_at;
@@ -327,15 +327,11 @@ fn do_line<D: Shown>(
         Follows table.now (line_plan f conn now (at_names s names.old) next line.now) (next result (settled result conn (at_names s names.new))) (D.shown desk.old) (D.shown desk.new) book.old book.new counts.old counts.new }
 {
     match line {
-        Line::Config { name, octets } => {
-            config_line(names, desk, counts, conn, name, octets)
-        }
+        Line::Config { name, octets } => { config_line(names, desk, counts, conn, name, octets) }
         Line::Open { key, name, wait } => open_line(
             locals, names, table, book, desk, counts, conn, now, key, name, *wait,
         ),
-        Line::Set { key, name } => {
-            set_line(names, table, book, desk, counts, conn, key, name)
-        }
+        Line::Set { key, name } => { set_line(names, table, book, desk, counts, conn, key, name) }
         Line::Close { key } => close_line(table, book, desk, counts, conn, key),
         Line::Count { key } => count_line(table, book, desk, counts, conn, key),
         Line::List => list_line(table, book, desk, counts, conn),

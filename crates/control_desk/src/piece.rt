@@ -9,10 +9,10 @@ ghost use Rattle.control_desk.specs.Operator.{Next, operator_plan, behind_octet,
 use crate::answering::send_line;
 use crate::counts::{Counts, Verdict};
 use crate::line_buffer::LineBuffer;
-use operator_lines::{Answer, Refusal};
 use crate::names::Names;
 use crate::operator::hear_line;
 use crate::shown::Shown;
+use operator_lines::{Answer, Refusal};
 use refl_types::LocalAddr;
 use session_desk::DeskBook;
 use session_rule::Table;

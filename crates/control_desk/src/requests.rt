@@ -211,7 +211,7 @@ fn try_one<D: Shown>(
     ensures book { IsBookOf table.now book.new }
     ensures done { (d : DeskView D.Setup) (n : declared.Counts) (next : NextAnswer) (more : Plan) →
         Follows table.now (reserve (key_at (record { local = local; port = port }) from.now request.now.sender_port) extra.now config.now reserved_wait
-            (tried (key_at (record { local = local; port = port }) from.now request.now.sender_port) port request.now next more)) (after_tried result next more) d d book.old book.new n n }
+        (tried (key_at (record { local = local; port = port }) from.now request.now.sender_port) port request.now next more)) (after_tried result next more) d d book.old book.new n n }
 {
     let key = key_at(local, from, request.sender_port);
     match book.reserve(table, &key, extra, config, RESERVED_WAIT) {
@@ -249,7 +249,7 @@ fn try_local<D: Shown>(
     ensures book { IsBookOf table.now book.new }
     ensures done { (d : DeskView D.Setup) (n : declared.Counts) (next : NextAnswer) (rest : List Candidate) →
         Follows table.now (try_all config.now extra.now from.now request.now next (chosen_one (is_candidate request.now.v6 to.now request.now.receiver_port wanted) number local.now ++ rest))
-            (after_tried result next (try_all config.now extra.now from.now request.now next rest)) d d book.old book.new n n }
+        (after_tried result next (try_all config.now extra.now from.now request.now next rest)) d d book.old book.new n n }
 {
     if !is_candidate(request.v6, to, request.receiver_port, wanted, local) {
         return Tried::TriesNext;
@@ -276,7 +276,7 @@ fn try_locals<D: Shown>(
     ensures book { IsBookOf table.now book.new }
     ensures done { (d : DeskView D.Setup) (n : declared.Counts) (next : NextAnswer) (rest : List Candidate) →
         Follows table.now (try_all config.now extra.now from.now request.now next (chosen (is_candidate request.now.v6 to.now request.now.receiver_port wanted) 0 locals.now ++ rest))
-            (after_tried result next (try_all config.now extra.now from.now request.now next rest)) d d book.old book.new n n }
+        (after_tried result next (try_all config.now extra.now from.now request.now next rest)) d d book.old book.new n n }
 {
     for (i, local) in locals.iter().enumerate() {
         let tried = try_local::<D>(
@@ -305,17 +305,13 @@ fn try_candidates<D: Shown>(
     ensures book { IsBookOf table.now book.new }
     ensures done { (d : DeskView D.Setup) (n : declared.Counts) (next : NextAnswer) →
         Follows table.now (try_all config.now extra.now from.now request.now next (candidates locals.now request.now.v6 to.now request.now.receiver_port))
-            (after_tried result next (next (answers.Refused 5) [])) d d book.old book.new n n }
+        (after_tried result next (next (answers.Refused 5) [])) d d book.old book.new n n }
 {
-    let tried = try_locals::<D>(
-        table, book, config, extra, from, to, request, locals, true,
-    );
+    let tried = try_locals::<D>(table, book, config, extra, from, to, request, locals, true);
     if !tries_next(&tried) {
         return tried;
     }
-    try_locals::<D>(
-        table, book, config, extra, from, to, request, locals, false,
-    )
+    try_locals::<D>(table, book, config, extra, from, to, request, locals, false)
 }
 
 /// Reserves a session for a request.

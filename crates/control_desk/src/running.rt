@@ -49,9 +49,7 @@ fn hear_event<D: Shown>(
             peer,
             local,
         } => {
-            hear_opened(
-                twamp, places, desk, counts, conn, now, kind, &peer, &local,
-            );
+            hear_opened(twamp, places, desk, counts, conn, now, kind, &peer, &local);
             Verdict::GoesOn
         }
         DeskEvent::Bytes { conn, len } => hear_bytes(

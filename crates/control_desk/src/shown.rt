@@ -45,8 +45,7 @@ impl<D: Desk> Shown for D {
 
     ghost shown = { λ d. view_of (D.is_open d) (D.made d) (D.log d) (D.faults d) };
 
-    fn take_event(&mut self, counts: &mut Counts, buf: &mut [u8; PIECE_ROOM]) -> Option<Timed>
-    {
+    fn take_event(&mut self, counts: &mut Counts, buf: &mut [u8; PIECE_ROOM]) -> Option<Timed> {
         match self.next(buf) {
             Ok(timed) => {
                 counts.add_event();
@@ -59,8 +58,7 @@ impl<D: Desk> Shown for D {
         }
     }
 
-    fn tell(&mut self, counts: &mut Counts, conn: u32, octets: &[u8]) -> bool
-    {
+    fn tell(&mut self, counts: &mut Counts, conn: u32, octets: &[u8]) -> bool {
         match self.send(conn, octets) {
             Ok(()) => true,
             Err(_) => {
@@ -70,8 +68,7 @@ impl<D: Desk> Shown for D {
         }
     }
 
-    fn drop_line(&mut self, conn: u32)
-    {
+    fn drop_line(&mut self, conn: u32) {
         self.hang_up(conn);
     }
 }

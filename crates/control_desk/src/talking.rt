@@ -97,9 +97,7 @@ fn hear_message<D: Shown>(
     match side.machine.ask(message) {
         Ask::Reserve(request) => {
             let answer = reserve_session::<D>(locals, twamp, table, book, side, &request);
-            reply(
-                table, book, desk, counts, conn, now, side, message, &answer,
-            )
+            reply(table, book, desk, counts, conn, now, side, message, &answer)
         }
         Ask::StartAll => {
             start_sessions::<D>(table, book, now, side.sessions.list());

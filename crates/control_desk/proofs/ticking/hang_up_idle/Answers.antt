@@ -6,6 +6,8 @@ use Rattle.control_desk.specs.declared.sides.Side.{Side}
 use Rattle.control_desk.specs.Plan.{Plan}
 use Rattle.control_desk.specs.Run.{is_idle_side, hang_up_side, idle_plan}
 use Rattle.control_desk.proofs.Following.{follows_as, follows_to, follows_then}
+use Rattle.control_desk.specs.State.{DeskState}
+use Rattle.control_desk.proofs.IndexFacts.{length_remove}
 use Rattle.control_desk.proofs.IdleFacts.{idle_end, idle_step, kept_step}
 use Rattle.control_desk.proofs.ticking.hang_up_idle.Goals as goal
 
@@ -16,13 +18,19 @@ loop-at-preserved-then-not-is_idle_side g c =
     let lt : l.at < length items = omega (arith, c.loop-at-test.true) in
     let d = c.index.result.now in
     let idle : is_idle_side c.args.now (get_or items l.at d).side ≡ false
-    = ap (λ (x : OpenConnection). is_idle_side c.args.now x.side) (sym c.index.ensures.value) ∙ sym c.is_idle_side.ensures ∙ c.if-not-is_idle_side.true in
+    = ap (λ (x : OpenConnection). is_idle_side c.args.now x.side) (sym c.index.ensures) ∙ sym c.is_idle_side.ensures ∙ c.if-not-is_idle_side.true in
     record {
       book = l.invariant.book;
       within = omega (arith, lt);
       state = l.invariant.state;
       done = λ next. follows_to (kept_step c.args.now next items l.at d lt idle) (l.invariant.done next);
     }
+
+pub loop-at-smaller : goal.loop-at-smaller
+loop-at-smaller g c =
+    let items = c.loop-at.places.connections.items in
+    let lt : c.loop-at.at < length items = omega (arith, c.loop-at-test.true) in
+    omega (arith, ap length c.remove-gone.ensures.items, length_remove items c.loop-at.at lt, lt)
 
 pub loop-at-preserved : goal.loop-at-preserved
 loop-at-preserved g c =
@@ -33,11 +41,11 @@ loop-at-preserved g c =
     let gone = c.remove-gone.result in
     let same : gone ≡ get_or items l.at d = get_or_read items l.at gone lt c.remove-gone.ensures.value d in
     let idle : is_idle_side c.args.now (get_or items l.at d).side ≡ true
-    = ap (λ (x : OpenConnection). is_idle_side c.args.now x.side) (sym c.index.ensures.value) ∙ sym c.is_idle_side.ensures ∙ c.if-not-is_idle_side.false in
+    = ap (λ (x : OpenConnection). is_idle_side c.args.now x.side) (sym c.index.ensures) ∙ sym c.is_idle_side.ensures ∙ c.if-not-is_idle_side.false in
     record {
       book = c.hang_up_side.ensures.book;
-      within = ?;
-      state = ?;
+      within = omega (arith, ap length c.remove-gone.ensures.items, length_remove items l.at lt, lt);
+      state = ap (λ (s : DeskState). record s { connections = c.remove-gone.new.self.items }) l.invariant.state;
       done = λ next.
           let left = idle_plan c.args.now next (take l.at (remove items l.at)) (drop l.at (remove items l.at)) in
           follows_then (l.invariant.done next)
