@@ -1,5 +1,5 @@
 -- The plans of an operator's lines, case by case.
-use Rattle.std.proofs.Common.{◌≡◌, ℕ, zero, suc, List, ◌+◌, ◌-◌, ◌<◌, ◌≤◌, leb, eqb, ◌++◌, [], ◌∷◌, length, drop, get_or, Bool, true, false, if◌then◌else◌, Option, Some, None, refl, sym, ap, ◌∙◌, arith, subst, cond}
+use Rattle.std.proofs.Common.{◌≡◌, ℕ, zero, suc, List, ◌+◌, ◌-◌, ◌<◌, ◌≤◌, leb, eqb, ◌++◌, [], ◌∷◌, length, drop, get_or, true, false, Option, Some, None, refl, ap, ◌∙◌, arith}
 use Rattle.std.proofs.Math.Seq.{drop-cons}
 use Rattle.std.specs.Option.{is_some}
 use Rattle.refl_types.specs.declared.config.ConfigParts.{ConfigParts}
@@ -7,16 +7,16 @@ use Rattle.operator_lines.specs.declared.answer.Refusal.TheVariants as refusals
 use Rattle.operator_lines.specs.declared.answer.Answer.TheVariants.{Number, Refused}
 use Rattle.control_desk.specs.declared.counts.Verdict.{Verdict}
 use Rattle.control_desk.specs.declared.counts.Verdict.TheVariants.{GoesOn, Over, Quits}
-use Rattle.control_desk.specs.State.{Setting, DeskState, with_name, with_side, without, settled}
+use Rattle.control_desk.specs.State.{Setting, DeskState, with_side, without, settled}
 use Rattle.control_desk.specs.declared.sides.Side.TheVariants.{Operator}
 use Rattle.operator_lines.specs.Reading.{line_from}
 use Rattle.operator_lines.specs.Answers.{answer_text}
 use Rattle.control_desk.proofs.Choices.{if_true, if_false}
-use Rattle.control_desk.specs.Plan.{Plan, live_at, send, hang_up}
+use Rattle.control_desk.specs.Plan.{live_at, send, hang_up}
 use Rattle.operator_lines.specs.declared.line.Line.{Line}
 use Rattle.operator_lines.specs.declared.line.Line.TheVariants as lines
 use Rattle.operator_lines.specs.Lines.{IsLine}
-use Rattle.control_desk.specs.Operator.{HasSoundKey, Next, say, refuse, new_name, name_limit, list_from, list_key, operator_plan, line_limit, read_plan, behind_line, behind_octet}
+use Rattle.control_desk.specs.Operator.{HasSoundKey, Next, say, refuse, new_name, list_from, list_key, operator_plan, line_limit, read_plan, behind_line, behind_octet}
 
 pub known_name : (n : ℕ) (s : DeskState) (name : List ℕ) (c : ConfigParts) (next : Next) (o : Option ConfigParts)
     → is_some o ≡ true → new_name n s name c next o ≡ refuse n refusals.Exists s next

@@ -1,5 +1,5 @@
 -- The plans of a connection's sessions, one session more.
-use Rattle.std.proofs.Common.{◌≡◌, ℕ, ◌+◌, ◌<◌, List, [], length, drop, get_or, Result, refl, ap}
+use Rattle.std.proofs.Common.{ℕ, ◌+◌, ◌<◌, List, length, drop, get_or, Result, refl, ap}
 use Rattle.session_rule.specs.declared.seats.Table.{Table}
 use Rattle.session_desk.specs.declared.session.NoSuch.{NoSuch}
 use Rattle.session_desk.specs.Book.{Book}

@@ -1,10 +1,10 @@
 -- A run turn by turn, and what a run shows.
-use Rattle.std.proofs.Common.{◌≡◌, ◌⊎◌, inl, inr, ℕ, zero, suc, ◌+◌, ◌-◌, ◌^◌, ◌<◌, ◌≤◌, min, Bool, true, false, if◌then◌else◌, IsTrue, List, [], ◌∷◌, ◌++◌, Option, Some, None, Ok, Err, refl, sym, ap, ◌∙◌, append_assoc, arith, subst}
+use Rattle.std.proofs.Common.{◌≡◌, inl, inr, ℕ, zero, suc, ◌+◌, ◌-◌, ◌^◌, ◌<◌, ◌≤◌, min, Bool, true, false, if◌then◌else◌, IsTrue, List, [], ◌∷◌, ◌++◌, Option, Some, None, Ok, Err, refl, sym, ap, ◌∙◌, append_assoc, arith, subst}
 use Rattle.std.proofs.lemmas.List.{append-nil}
 use Rattle.port_io.specs.Outside.{Rises}
 use Rattle.net_io.specs.declared.desk.Timed.{Timed}
 use Rattle.net_io.specs.Log.{Grows}
-use Rattle.net_io.specs.Desk.{DeskEntry, opened, open_failed, gave, next_failed, sent, send_failed, hung_up, finished}
+use Rattle.net_io.specs.Desk.{opened, open_failed, gave, next_failed, sent, send_failed, hung_up, finished}
 use Rattle.session_rule.specs.declared.seats.Table.{Table}
 use Rattle.session_desk.specs.Book.{Book}
 use Rattle.session_desk.specs.Makes.{BookCall, admits, reserves, keeps_row, starts, abandons, sets, closes, closes_at, counts, ticks, tells_length, tells_key, tells_place}
@@ -17,7 +17,7 @@ use Rattle.control_desk.specs.declared.sides.Side.TheVariants.{Operator}
 use Rattle.control_desk.specs.State.{Setting, DeskState, is_quits}
 use Rattle.control_desk.specs.Connections.{settled_side}
 use Rattle.control_desk.specs.Operator.{settled_piece}
-use Rattle.control_desk.specs.Plan.{Plan, Act, noted, called, hear, stop, entries_in, MakesAll, counts_with, counts_after, DeskView, Shows, ShowsAll, Follows}
+use Rattle.control_desk.specs.Plan.{Plan, Act, noted, called, hear, stop, entries_in, MakesAll, counts_with, counts_after, DeskView, ShowsAll, Follows}
 use Rattle.control_desk.specs.Run.{event_plan, behind_event, begun, desk_plan, is_over}
 use Rattle.control_desk.specs.Faults.{AreFaultsTold}
 

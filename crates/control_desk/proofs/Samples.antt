@@ -1,5 +1,5 @@
 -- The definitions, computed on small cases.
-use Rattle.std.proofs.Common.{◌≡◌, ℕ, true, false, List, [], ◌∷◌, None, refl}
+use Rattle.std.proofs.Common.{◌≡◌, ℕ, true, false, [], ◌∷◌, None, refl}
 use Rattle.refl_types.specs.declared.types.Address.TheVariants.{V4}
 use Rattle.refl_types.specs.declared.types.Endpoint.{Endpoint}
 use Rattle.refl_types.specs.declared.types.Mode.TheVariants.{Twamp}
@@ -11,10 +11,10 @@ use Rattle.control_desk.specs.State.{Setting, DeskState}
 use Rattle.control_desk.specs.Control.{Candidate, candidates, closing_moment}
 use Rattle.control_desk.specs.Run.{is_idle, is_refused}
 
-local : ℕ → ℕ → Endpoint
+abbrev local : ℕ → ℕ → Endpoint
 local last port = record { address = V4 (192 ∷ 0 ∷ 2 ∷ last ∷ []); port = port }
 
-candidate : ℕ → ℕ → Candidate
+abbrev candidate : ℕ → ℕ → Candidate
 candidate number port = record { local = number; port = port }
 
 -- the wanted port comes first, then the others in the order of their numbers
@@ -25,7 +25,7 @@ wanted_first = refl
 any_local : candidates (record { address = V4 (0 ∷ 0 ∷ 0 ∷ 0 ∷ []); port = 862 } ∷ []) false (V4 (192 ∷ 0 ∷ 2 ∷ 10 ∷ [])) 5001 ≡ candidate 0 862 ∷ []
 any_local = refl
 
-own : ℕ → OwnSession
+abbrev own : ℕ → OwnSession
 own timeout = record {
   place = record { slot = 0; generation = 1 };
   key = record { local = 0; peer = local 1 6000; mode = Twamp; ssid = 0 };
@@ -38,7 +38,7 @@ closing = refl
 closing_last : closing_moment 18446744073709551615 (own 1) ≡ 18446744073709551615
 closing_last = refl
 
-silent : ControlSide
+abbrev silent : ControlSide
 silent = record { machine = opened 0; peer = V4 (192 ∷ 0 ∷ 2 ∷ 1 ∷ []); local = V4 (192 ∷ 0 ∷ 2 ∷ 10 ∷ []); heard = 0; sessions = [] }
 
 not_idle : is_idle 899999999999 silent ≡ false
@@ -48,10 +48,10 @@ idle : is_idle 900000000000 silent ≡ true
 idle = refl
 
 -- without `twamp` no control connection is kept
-without_twamp : Setting
+abbrev without_twamp : Setting
 without_twamp = record { locals = local 10 862 ∷ []; twamp = None }
 
-nobody : DeskState
+abbrev nobody : DeskState
 nobody = record { names = []; connections = []; started = None }
 
 no_clients : is_refused without_twamp nobody kinds.Control ≡ true

@@ -1,6 +1,6 @@
 -- What the messages of a control connection do (RFC 5357, section 3; RFC 4656, section 3): the calls of each message, in their
 -- order, its reply, and when the connection is hung up. Which candidate is taken and each accept value are this project's own.
-use Rattle.std.specs.Prelude.{ℕ, suc, ◌+◌, ◌*◌, ◌-◌, ◌^◌, min, Bool, true, false, ◌==◌, ◌&&◌, ◌||◌, not, nat_le, if◌then◌else◌, List, [], ◌∷◌, ◌++◌, length, replicate, Option, Some, None, Result, Ok, Err}
+use Rattle.std.specs.Prelude.{ℕ, ◌+◌, ◌*◌, ◌-◌, ◌^◌, min, Bool, true, false, ◌==◌, ◌&&◌, ◌||◌, not, nat_le, if◌then◌else◌, List, [], ◌∷◌, ◌++◌, length, replicate, Option, Some, None, Result, Ok, Err}
 use Rattle.std.specs.List.{list_any}
 use Rattle.refl_types.specs.declared.types.Address.{Address}
 use Rattle.refl_types.specs.declared.types.Address.TheVariants.{V4, V6}
@@ -16,7 +16,7 @@ use Rattle.control_msgs.specs.declared.types.Request.{Request as SessionRequest}
 use Rattle.control_msgs.specs.Modes.{is_symmetrical, reflects_octets}
 use Rattle.twamp_control.specs.declared.types.Message.{Message}
 use Rattle.twamp_control.specs.declared.types.Stage.{Stage}
-use Rattle.twamp_control.specs.declared.types.Stage.TheVariants.{SettingUp, Idle, Started, HungUp}
+use Rattle.twamp_control.specs.declared.types.Stage.TheVariants.{Started}
 use Rattle.twamp_control.specs.declared.types.Ask.{Ask}
 use Rattle.twamp_control.specs.declared.types.Ask.TheVariants.{Reserve, StartAll, StopAll, Nothing, HangUp}
 use Rattle.twamp_control.specs.declared.types.DeskAnswer.{DeskAnswer}

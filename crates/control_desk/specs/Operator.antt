@@ -1,5 +1,5 @@
 -- What the lines of an operator do (this project's own): the calls of each line, in their order, and its answers.
-use Rattle.std.specs.Prelude.{◌≡◌, ℕ, zero, suc, ◌+◌, Bool, true, false, ◌==◌, nat_le, if◌then◌else◌, List, [], ◌∷◌, ◌++◌, length, Option, Some, None, Result, Ok, Err}
+use Rattle.std.specs.Prelude.{◌≡◌, ℕ, zero, suc, ◌+◌, true, ◌==◌, nat_le, if◌then◌else◌, List, [], ◌∷◌, ◌++◌, length, Option, Some, None, Result, Ok, Err}
 use Rattle.refl_types.specs.declared.types.Key.{Key}
 use Rattle.refl_types.specs.Keys.{is_sound}
 use Rattle.operator_lines.specs.Lines.{no_extra}

@@ -1,5 +1,5 @@
 -- Plans: what the desk does next, given how what it did so far came out (this project's own). And when a plan was followed.
-use Rattle.std.specs.Prelude.{◌≡◌, ℕ, ◌+◌, ◌-◌, ◌^◌, min, Bool, List, [], ◌∷◌, ◌++◌, take, Option, Some, None, Result, Ok, Err}
+use Rattle.std.specs.Prelude.{◌≡◌, ℕ, ◌+◌, ◌-◌, ◌^◌, min, Bool, List, [], ◌∷◌, ◌++◌, take, Option, Some, None, Result, Ok}
 use Rattle.refl_types.specs.declared.types.Key.{Key}
 use Rattle.refl_types.specs.declared.types.Extra.{Extra}
 use Rattle.refl_types.specs.declared.config.ConfigParts.{ConfigParts}

@@ -1,14 +1,12 @@
 -- The desk's events (this project's own), and a whole run of the desk.
 use Rattle.std.specs.Prelude.{◌≡◌, ℕ, zero, suc, ◌+◌, ◌*◌, ◌^◌, Bool, true, false, ◌==◌, ◌&&◌, ◌||◌, not, nat_le, if◌then◌else◌, List, [], ◌∷◌, ◌++◌, length, Option, Some, None}
 use Rattle.refl_types.specs.declared.types.Address.{Address}
-use Rattle.refl_types.specs.declared.config.ConfigParts.{ConfigParts}
 use Rattle.control_msgs.specs.Layout.{greeting}
 use Rattle.twamp_control.specs.declared.types.Stage.{Stage}
 use Rattle.twamp_control.specs.declared.types.Stage.TheVariants.{SettingUp, Idle, Started, HungUp}
 use Rattle.twamp_control.specs.Connection.{opened}
 use Rattle.net_io.specs.declared.desk.ConnKind.{ConnKind}
 use Rattle.net_io.specs.declared.desk.ConnKind.TheVariants as kinds
-use Rattle.net_io.specs.declared.desk.Timed.{Timed}
 use Rattle.net_io.specs.declared.desk.DeskEvent.{DeskEvent}
 use Rattle.net_io.specs.declared.desk.DeskEvent.TheVariants.{Opened, Bytes, Closed, Tick, End}
 use Rattle.control_desk.specs.declared.counts.Counts.{Counts}
@@ -18,7 +16,6 @@ use Rattle.net_io.specs.Log.{Grows}
 use Rattle.net_io.specs.Desk.{DeskEntry, finished}
 use Rattle.session_rule.specs.declared.seats.Table.{Table}
 use Rattle.session_desk.specs.Book.{Book}
-use Rattle.control_desk.specs.declared.counts.Verdict.{Verdict}
 use Rattle.control_desk.specs.declared.counts.Verdict.TheVariants.{GoesOn, Over, Quits}
 use Rattle.control_desk.specs.declared.sides.ControlSide.{ControlSide}
 use Rattle.control_desk.specs.declared.sides.OpenConnection.{OpenConnection}

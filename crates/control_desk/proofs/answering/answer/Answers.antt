@@ -1,4 +1,3 @@
-use Rattle.std.proofs.Common.{refl}
 use Rattle.control_desk.specs.declared.counts.Verdict.TheVariants.{GoesOn, Over}
 use Rattle.control_desk.specs.State.{without}
 use Rattle.control_desk.specs.Plan.{hang_up}

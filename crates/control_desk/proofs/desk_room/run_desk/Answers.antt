@@ -17,7 +17,7 @@ returns-clause-run g c =
     let run = c.hear_all-end.ensures.done f (sym c.deref.ensures.value) refl in
     record {
       acts = run.acts;
-      leads = subst (λ (r : Room). Leads (desk_plan r.setting c.args.turns 0 r.state) run.acts (stop c.hear_all-end.result)) (sym c.room.view_is) run.leads;
+      leads = subst (λ (r : Room). Leads (desk_plan r.setting c.args.turns 0 r.state) run.acts (stop c.hear_all-end.result)) c.room.view_is run.leads;
       written = grows_then _ _ _ (entries_in run.acts) (finished ∷ []) (log_grows run.acts _ _ run.shown) c.finish.ensures.log;
       made = run.made;
       counted = run.counted;

@@ -1,14 +1,10 @@
-use Rattle.std.proofs.Common.{◌≡◌, List, ℕ, refl, sym, ap, ◌∙◌}
-use Rattle.twamp_control.specs.Connection.{Connection, opened}
-use Rattle.control_msgs.specs.Layout.{greeting}
-use Rattle.control_desk.specs.declared.own.OwnSession.{OwnSession}
-use Rattle.control_desk.specs.declared.sides.Side.{Side}
+use Rattle.std.proofs.Common.{List, ℕ, sym, ap}
 use Rattle.control_desk.specs.declared.sides.Side.TheVariants.{Control}
-use Rattle.control_desk.specs.State.{DeskState, with_connection}
+use Rattle.control_desk.specs.State.{with_connection}
 use Rattle.control_desk.specs.Connections.{state_of}
-use Rattle.control_desk.specs.Plan.{Plan, send, hang_up}
-use Rattle.control_desk.specs.Run.{control_side, start_of}
-use Rattle.control_desk.proofs.Following.{follows_as, follows_to, follows_then}
+use Rattle.control_desk.specs.Plan.{send, hang_up}
+use Rattle.control_desk.specs.Run.{control_side}
+use Rattle.control_desk.proofs.Following.{follows_as, follows_then}
 use Rattle.control_desk.proofs.hearing.greet_client.Goals as goal
 
 pub returns-then-not-tell : goal.returns-then-not-tell

@@ -1,7 +1,6 @@
-use Rattle.std.proofs.Common.{◌≡◌, List, Some, ℕ, set, refl, sym, ap, ◌∙◌}
-use Rattle.std.specs.List.{remove}
+use Rattle.std.proofs.Common.{◌≡◌, List, Some, ℕ, set, sym, ap, ◌∙◌}
 use Rattle.control_desk.specs.declared.sides.OpenConnection.{OpenConnection}
-use Rattle.control_desk.specs.State.{DeskState, at_names, side_in, put_side, without}
+use Rattle.control_desk.specs.State.{at_names, side_in, put_side, without}
 use Rattle.control_desk.specs.Connections.{index_from, state_of}
 use Rattle.control_desk.specs.Run.{bytes_plan, behind_event}
 use Rattle.control_desk.proofs.Following.{follows_none, follows_as, follows_to}

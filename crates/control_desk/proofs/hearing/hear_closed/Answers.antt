@@ -1,6 +1,6 @@
 use Rattle.std.proofs.Common.{◌≡◌, List, Some, sym, ap, ◌∙◌}
 use Rattle.control_desk.specs.declared.sides.OpenConnection.{OpenConnection}
-use Rattle.control_desk.specs.State.{DeskState, side_in, without}
+use Rattle.control_desk.specs.State.{side_in}
 use Rattle.control_desk.specs.Connections.{index_from, state_of}
 use Rattle.control_desk.specs.Run.{closed_plan}
 use Rattle.control_desk.proofs.Following.{follows_none, follows_as, follows_to}

@@ -1,8 +1,7 @@
-use Rattle.std.proofs.Common.{◌≡◌, false, refl, sym, ap, ◌∙◌}
-use Rattle.control_desk.specs.State.{DeskState, side_in}
+use Rattle.std.proofs.Common.{sym, ap, ◌∙◌}
+use Rattle.control_desk.specs.State.{side_in}
 use Rattle.control_desk.specs.Plan.{hang_up}
 use Rattle.control_desk.specs.Connections.{state_of}
-use Rattle.control_desk.specs.declared.sides.Side.{Side}
 use Rattle.control_desk.specs.declared.sides.Side.TheVariants.{Operator}
 use Rattle.control_desk.specs.State.{with_connection}
 use Rattle.control_desk.specs.Run.{opened_plan, greet}

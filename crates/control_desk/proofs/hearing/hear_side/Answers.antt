@@ -1,4 +1,4 @@
-use Rattle.std.proofs.Common.{◌≡◌, Some, refl, sym, ap, ◌∙◌}
+use Rattle.std.proofs.Common.{Some, ap}
 use Rattle.control_desk.specs.declared.sides.ControlSide.{ControlSide}
 use Rattle.control_desk.specs.declared.sides.Side.{Side}
 use Rattle.control_desk.specs.declared.sides.Side.TheVariants.{Control}

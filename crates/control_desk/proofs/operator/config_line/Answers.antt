@@ -1,8 +1,8 @@
-use Rattle.std.proofs.Common.{◌≡◌, List, Option, Some, None, sym, ap, ◌∙◌}
+use Rattle.std.proofs.Common.{List, Option, sym, ap, ◌∙◌}
 use Rattle.refl_types.specs.declared.config.ConfigParts.{ConfigParts}
 use Rattle.operator_lines.specs.declared.answer.Refusal.TheVariants as refusals
 use Rattle.operator_lines.specs.declared.answer.Answer.TheVariants.{Done}
-use Rattle.control_desk.specs.State.{DeskState, at_names, with_name, config_in}
+use Rattle.control_desk.specs.State.{at_names, with_name}
 use Rattle.control_desk.specs.Operator.{name_config, new_name, say, refuse}
 use Rattle.control_desk.proofs.Following.{follows_as}
 use Rattle.control_desk.proofs.Choices.{reaches, stays_below, unless_full, if_true, if_false}

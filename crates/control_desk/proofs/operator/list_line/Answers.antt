@@ -1,4 +1,4 @@
-use Rattle.std.proofs.Common.{◌≡◌, ℕ, ◌-◌, ◌≤◌, refl, ap, arith}
+use Rattle.std.proofs.Common.{◌≡◌, ℕ, ◌-◌, refl, ap, arith}
 use Rattle.session_desk.specs.Makes.{tells_length}
 use Rattle.control_desk.specs.Plan.{Plan, live_len}
 use Rattle.control_desk.specs.Operator.{list_from}

@@ -1,4 +1,4 @@
-use Rattle.std.proofs.Common.{◌≡◌, ◌≤◌, ◌-◌}
+use Rattle.std.proofs.Common.{◌≤◌, ◌-◌}
 use Rattle.session_desk.specs.Book.{IsBookOf}
 use Rattle.control_desk.specs.State.{DeskState}
 use Rattle.control_desk.specs.Plan.{Follows, live_len}

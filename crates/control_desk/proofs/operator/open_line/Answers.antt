@@ -1,4 +1,4 @@
-use Rattle.std.proofs.Common.{◌≡◌, List, refl, sym, ap, ◌∙◌, subst, length, leb, true, false, arith}
+use Rattle.std.proofs.Common.{◌≡◌, List, sym, ap, ◌∙◌, subst, length, leb, true, false, arith}
 use Rattle.refl_types.specs.declared.types.Endpoint.{Endpoint}
 use Rattle.operator_lines.specs.declared.answer.Refusal.TheVariants as refusals
 use Rattle.control_desk.specs.State.{at_names, config_in}

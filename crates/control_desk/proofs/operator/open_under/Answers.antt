@@ -3,7 +3,7 @@ use Rattle.session_desk.specs.Makes.{reserves, starts}
 use Rattle.operator_lines.specs.Lines.{no_extra}
 use Rattle.operator_lines.specs.declared.answer.Answer.TheVariants.{Done}
 use Rattle.operator_lines.specs.declared.answer.Refusal.{Refusal}
-use Rattle.control_desk.specs.Plan.{reserve, start}
+use Rattle.control_desk.specs.Plan.{reserve}
 use Rattle.control_desk.specs.Operator.{reserved_plan, say, refuse}
 use Rattle.control_desk.proofs.Following.{follows_as, follows_called, follows_then}
 use Rattle.control_desk.proofs.operator.open_under.Goals as goal

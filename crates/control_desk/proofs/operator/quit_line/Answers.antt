@@ -1,4 +1,3 @@
-use Rattle.std.proofs.Common.{refl}
 use Rattle.control_desk.specs.declared.counts.Verdict.TheVariants.{Quits}
 use Rattle.control_desk.specs.Plan.{hang_up}
 use Rattle.control_desk.proofs.Following.{follows_then}

@@ -1,6 +1,5 @@
-use Rattle.std.proofs.Common.{◌≡◌, drop}
+use Rattle.std.proofs.Common.{drop}
 use Rattle.session_desk.specs.Book.{IsBookOf}
-use Rattle.control_desk.specs.declared.counts.Counts.{Counts}
 use Rattle.control_desk.specs.Plan.{Plan, DeskView, Follows}
 use Rattle.control_desk.specs.Control.{close_all}
 use Rattle.control_desk.proofs.own_calls.close_sessions.Given as goal

@@ -1,4 +1,4 @@
-use Rattle.std.proofs.Common.{◌≡◌, drop}
+use Rattle.std.proofs.Common.{drop}
 use Rattle.session_desk.specs.Book.{IsBookOf}
 use Rattle.control_desk.specs.declared.counts.Counts.{Counts}
 use Rattle.control_desk.specs.Plan.{Plan, DeskView, Follows}

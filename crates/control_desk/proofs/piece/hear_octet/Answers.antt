@@ -1,4 +1,4 @@
-use Rattle.std.proofs.Common.{◌≡◌, ℕ, List, [], ◌∷◌, ◌++◌, refl, sym, ap, ◌∙◌}
+use Rattle.std.proofs.Common.{ℕ, List, [], sym, ap, ◌∙◌}
 use Rattle.control_desk.specs.declared.counts.Verdict.TheVariants.{Over}
 use Rattle.operator_lines.specs.Reading.{line_from}
 use Rattle.control_desk.specs.State.{at_names, without}

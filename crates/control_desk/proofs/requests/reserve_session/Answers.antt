@@ -1,15 +1,10 @@
-use Rattle.std.proofs.Common.{◌≡◌, ℕ, true, false, leb, length, List, [], ◌∷◌, Option, Some, None, refl, sym, ap, subst, ◌∙◌}
+use Rattle.std.proofs.Common.{◌≡◌, false, List, [], sym, ap, ◌∙◌}
 use Rattle.refl_types.specs.declared.types.Address.{Address}
 use Rattle.refl_types.specs.declared.types.Endpoint.{Endpoint}
-use Rattle.refl_types.specs.declared.types.Extra.{Extra}
-use Rattle.refl_types.specs.declared.config.ConfigParts.{ConfigParts}
 use Rattle.twamp_control.specs.declared.types.DeskAnswer.TheVariants.{Reserved, Refused}
-use Rattle.control_desk.specs.State.{Setting}
-use Rattle.control_desk.specs.Plan.{Plan}
 use Rattle.control_desk.specs.declared.requests.Tried.{Tried}
-use Rattle.control_desk.specs.declared.sides.ControlSide.{ControlSide}
 use Rattle.control_desk.specs.declared.own.OwnSession.{OwnSession}
-use Rattle.control_desk.specs.Control.{NextAnswer, under_twamp, between, is_served, try_all, candidates, extra_of, or_else, with_own, after_tried}
+use Rattle.control_desk.specs.Control.{NextAnswer, under_twamp, is_served, or_else, with_own, after_tried}
 use Rattle.control_desk.proofs.Choices.{if_true, if_false}
 use Rattle.control_desk.proofs.Following.{follows_as, follows_to, follows_none}
 use Rattle.control_desk.proofs.RequestFacts.{served}

@@ -2,7 +2,7 @@ use Rattle.std.proofs.Common.{false, [], sym, ap, ◌∙◌}
 use Rattle.std.proofs.lemmas.List.{append-nil}
 use Rattle.twamp_control.specs.declared.types.DeskAnswer.TheVariants.{Refused}
 use Rattle.control_desk.specs.Control.{chosen, is_candidate, try_all, after_tried}
-use Rattle.control_desk.proofs.Following.{follows_as, follows_to, follows_then}
+use Rattle.control_desk.proofs.Following.{follows_to, follows_then}
 use Rattle.control_desk.proofs.RequestFacts.{done_with, goes_on, try_none}
 use Rattle.control_desk.proofs.requests.try_candidates.Goals as goal
 

@@ -1,5 +1,5 @@
-use Rattle.std.proofs.Common.{◌≡◌, ◌++◌, List, [], ◌∷◌, sym, ap, ◌∙◌}
-use Rattle.control_desk.specs.Control.{Candidate, is_candidate, try_all}
+use Rattle.std.proofs.Common.{◌++◌, List, [], ◌∷◌, sym, ap, ◌∙◌}
+use Rattle.control_desk.specs.Control.{Candidate, try_all}
 use Rattle.control_desk.proofs.Choices.{if_true, if_false}
 use Rattle.control_desk.proofs.Following.{follows_as, follows_none}
 use Rattle.control_desk.proofs.RequestFacts.{try_more}

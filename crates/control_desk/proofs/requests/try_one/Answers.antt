@@ -1,13 +1,13 @@
-use Rattle.std.proofs.Common.{◌≡◌, ℕ, true, List, [], ◌∷◌, Ok, Err, refl, sym, ap, subst, ◌∙◌}
+use Rattle.std.proofs.Common.{◌≡◌, ℕ, [], ◌∷◌, Ok, Err, refl, sym, ap, subst, ◌∙◌}
 use Rattle.refl_types.specs.declared.types.Key.{Key}
 use Rattle.refl_types.specs.Keys.{is_sound}
 use Rattle.twamp_control.specs.declared.types.DeskAnswer.TheVariants.{Reserved, Refused}
 use Rattle.session_desk.specs.Makes.{Makes, reserves}
 use Rattle.control_desk.specs.declared.own.OwnSession.{OwnSession}
 use Rattle.control_desk.specs.Plan.{reserve}
-use Rattle.control_desk.specs.Control.{Candidate, key_at, own_session, reserved_wait, tried}
+use Rattle.control_desk.specs.Control.{Candidate, key_at, reserved_wait, tried}
 use Rattle.control_desk.proofs.Choices.{if_true, if_false}
-use Rattle.control_desk.proofs.Following.{follows_as, follows_to, follows_called}
+use Rattle.control_desk.proofs.Following.{follows_to, follows_called}
 use Rattle.control_desk.proofs.requests.try_one.Goals as goal
 
 pub reserve-requires-clause-sound : goal.reserve-requires-clause-sound

@@ -1,5 +1,4 @@
-use Rattle.std.proofs.Common.{◌≡◌, ℕ, ◌+◌, ◌-◌, ◌<◌, ◌≤◌, List, take, true, false, refl, sym, ap, ◌∙◌, arith}
-use Rattle.net_io.specs.declared.desk.Timed.{Timed}
+use Rattle.std.proofs.Common.{◌≡◌, ◌+◌, ◌-◌, take, refl, sym, ap, ◌∙◌, arith}
 use Rattle.net_io.specs.Desk.{octet_count}
 use Rattle.control_desk.specs.declared.counts.DeskEnd.TheVariants as ends
 use Rattle.control_desk.specs.State.{Setting, DeskState}
@@ -7,7 +6,7 @@ use Rattle.control_desk.specs.Plan.{stop}
 use Rattle.control_desk.specs.Connections.{state_of}
 use Rattle.control_desk.specs.Run.{desk_plan, event_plan, behind_event, begun}
 use Rattle.control_desk.proofs.Choices.{if_true, if_false}
-use Rattle.control_desk.proofs.Following.{follows_none, follows_as, follows_to, follows_then}
+use Rattle.control_desk.proofs.Following.{follows_as, follows_to, follows_then}
 use Rattle.control_desk.proofs.RunFacts.{heard, unheard, desk_turn, desk_out, behind_quits, behind_others, open_after}
 use Rattle.control_desk.proofs.running.hear_all.Goals as goal
 

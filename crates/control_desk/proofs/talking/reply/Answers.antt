@@ -1,10 +1,9 @@
-use Rattle.std.proofs.Common.{◌≡◌, ℕ, Bool, true, false, List, ◌++◌, length, take, drop, refl, sym, ap, ◌∙◌}
+use Rattle.std.proofs.Common.{◌≡◌, ℕ, true, false, List, length, take, drop, sym, ap, ◌∙◌}
 use Rattle.std.proofs.lemmas.List.{take_at}
 use Rattle.twamp_control.specs.declared.types.Stage.{Stage}
 use Rattle.twamp_control.specs.declared.types.Stepped.{Stepped}
 use Rattle.twamp_control.specs.Connection.{Connection, is_hung_up, unless_hung_up}
 use Rattle.twamp_control.specs.Table.{row_of, written_over}
-use Rattle.control_desk.specs.declared.sides.ControlSide.{ControlSide}
 use Rattle.control_desk.specs.declared.own.OwnSession.{OwnSession}
 use Rattle.control_desk.specs.Control.{send_some, behind_reply, stage_behind, hang_up_plan}
 use Rattle.control_desk.proofs.Choices.{if_true, if_false}

@@ -1,9 +1,7 @@
-use Rattle.std.proofs.Common.{◌≡◌, ℕ, ◌+◌, ◌<◌, ◌≤◌, true, false, List, [], length, take, drop, get_or, refl, sym, ap, ◌∙◌, arith}
+use Rattle.std.proofs.Common.{◌≡◌, ◌<◌, ◌≤◌, true, false, List, length, take, drop, get_or, sym, ap, ◌∙◌, arith}
 use Rattle.std.proofs.lemmas.List.{get_or_read, drop_all, take_all}
 use Rattle.std.specs.List.{remove}
 use Rattle.control_desk.specs.declared.sides.OpenConnection.{OpenConnection}
-use Rattle.control_desk.specs.declared.sides.Side.{Side}
-use Rattle.control_desk.specs.Plan.{Plan}
 use Rattle.control_desk.specs.Run.{is_idle_side, hang_up_side, idle_plan}
 use Rattle.control_desk.proofs.Following.{follows_as, follows_to, follows_then}
 use Rattle.control_desk.specs.State.{DeskState}

@@ -1,7 +1,7 @@
 use Rattle.std.proofs.Common.{List, refl, sym, ap}
 use Rattle.session_desk.specs.Makes.{ticks}
 use Rattle.control_desk.specs.declared.sides.OpenConnection.{OpenConnection}
-use Rattle.control_desk.specs.State.{DeskState, at_connections}
+use Rattle.control_desk.specs.State.{at_connections}
 use Rattle.control_desk.specs.Connections.{state_of}
 use Rattle.control_desk.specs.Run.{tick_plan}
 use Rattle.control_desk.proofs.Following.{follows_to, follows_called, follows_then}

@@ -1,4 +1,4 @@
-use Rattle.std.proofs.Common.{◌≡◌, leb, length, sym, ap, arith}
+use Rattle.std.proofs.Common.{◌≡◌, leb, length, ap, arith}
 use Rattle.std.proofs.lemmas.List.{length-take}
 use Rattle.control_desk.proofs.own.OwnSessions.is_full.Goals as goal
 
