@@ -42,6 +42,13 @@ read_ok octets s le e = ok_of (ltb (length octets) 44) (record {}) (sender_of oc
 pub base_is : (p c : ConfigParts) (draw : Draw) (m : Meta) (s s' : SenderBase) (base : ReplyBase) → base ≡ reply_base p draw m s → p ≡ c → s ≡ s' → base ≡ reply_base c draw m s'
 base_is p c draw m s s' base e same sender = e ∙ ap (λ (q : ConfigParts). reply_base q draw m s) same ∙ ap (reply_base c draw m) sender
 
+-- of a datagram's facts only its TTL and its arrival are told
+pub base_told : (c : ConfigParts) (draw : Draw) (m n : Meta) (s : SenderBase) → m.ttl ≡ n.ttl → m.arrival ≡ n.arrival → reply_base c draw m s ≡ reply_base c draw n s
+unfolding reply_base
+base_told c draw m n s ttl arrival =
+    ap (λ (t : Option ℕ). let x : Meta = record m { ttl = t } in reply_base c draw x s) ttl
+    ∙ ap (λ (a : ℕ). let x : Meta = record n { arrival = a } in reply_base c draw x s) arrival
+
 pub block_is : (key : Option (List ℕ)) (block : List ℕ) → key ≡ Some block → block ≡ block_octets key
 block_is key block e = sym (ap block_octets e)
 

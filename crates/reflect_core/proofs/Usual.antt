@@ -26,7 +26,7 @@ use Rattle.reflect_core.specs.declared.ends.Ends.{Ends}
 use Rattle.reflect_core.specs.declared.session.Draw.{Draw}
 use Rattle.reflect_core.specs.declared.judging.Judged.{Judged}
 use Rattle.reflect_core.specs.declared.judging.Judged.TheVariants.{Reflect, Silent}
-use Rattle.reflect_core.specs.Judgement.{judged_base, judged_tail, judged_behind, and_then, judgement}
+use Rattle.reflect_core.specs.Judgement.{judged_length, judged_base, judged_tail, judged_behind, and_then, judgement}
 use Rattle.reflect_core.specs.Arrived.{Arrived}
 use Rattle.reflect_core.specs.Base.{reply_base}
 use Rattle.reflect_core.specs.Ends.{has_intact_tail, usual_ends, planned_ends, plan_after, ends_after}
@@ -121,3 +121,6 @@ judged_usual_behind Twamp c octets neither = refl
 
 pub judged_usual : (mode : Mode) (c : ConfigParts) (octets : List ℕ) → NeitherUnderstood c → judged_base mode c octets ≡ judgement mode c octets
 judged_usual mode c octets neither = then_reflect (judged_base mode c octets) (judged_behind mode c octets) (judged_usual_behind mode c octets neither)
+
+pub judged_test : (mode : Mode) (c : ConfigParts) (octets : List ℕ) → mode ≡ Twamp → judged_length 14 octets ≡ judgement mode c octets
+judged_test mode c octets e = then_reflect (judged_length 14 octets) Reflect refl ∙ ap (λ (m : Mode). judgement m c octets) (sym e)

@@ -1,12 +1,14 @@
 -- From where and to whom a reply is sent (RFC 8762, section 4.3; RFC 9503, sections 3 and 4). That a tail whose integrity
 -- failed is asked nothing is this project's own.
-use Rattle.std.specs.Prelude.{ℕ, Bool, true, false, if◌then◌else◌, List, drop}
+use Rattle.std.specs.Prelude.{ℕ, Bool, ◌||◌, true, false, if◌then◌else◌, List, drop}
 use Rattle.octet_format.specs.Octets.{field}
 use Rattle.refl_types.specs.declared.types.Mode.{Mode}
 use Rattle.refl_types.specs.declared.types.Mode.TheVariants.{Plain, Auth, Twamp}
 use Rattle.refl_types.specs.declared.types.Meta.{Meta}
 use Rattle.refl_types.specs.declared.config.ConfigParts.{ConfigParts}
+use Rattle.tlv_chain.specs.Tlv.{destination_node_address, return_path}
 use Rattle.tlv_actions.specs.declared.facts.Plan.{Plan}
+use Rattle.tlv_actions.specs.Rows.{is_understood}
 use Rattle.tlv_actions.specs.Planned.{planned}
 use Rattle.tlv_integrity.specs.declared.integrity.Integrity.{Integrity}
 use Rattle.tlv_integrity.specs.declared.integrity.Integrity.TheVariants.{Absent, Passed, Failed}
@@ -22,6 +24,10 @@ is_intact (Passed at) = true
 -- the integrity of the tail behind a base packet of as many octets hasn't failed
 abbrev pub has_intact_tail : ℕ → Mode → ConfigParts → List ℕ → Bool
 has_intact_tail len mode c octets = is_intact (integrity mode c (field 0 4 octets) (drop len octets))
+
+-- a tail may say from where and to whom its reply is sent
+abbrev pub may_redirect : ConfigParts → Bool
+may_redirect c = is_understood c destination_node_address || is_understood c return_path
 
 -- from where the datagram arrived, to its sender
 abbrev pub usual_ends : Meta → Ends

@@ -2,6 +2,7 @@
 
 ghost use Rattle.std.specs.Prelude.{◌≡◌, ◌≤◌, IsSome, length};
 ghost use Rattle.refl_types.specs.HmacKey.{HasHmacKey};
+ghost use Rattle.refl_types.specs.declared.types.Mode.TheVariants.{Twamp};
 ghost use Rattle.reflect_core.specs.Judgement.{judgement, judged_length, judged_auth, judged_base, judged_tail};
 
 use crate::session::Session;
@@ -98,16 +99,36 @@ impl Session<'_> {
         }
     }
 
-    /// Whether a datagram of the session is reflected: not where it is shorter than the base packet of the session's
-    /// mode, in mode Auth not where the HMAC of its base packet is another, and not where its tail asks for no reply.
+    /// Judges a datagram as `judge` does, in a session of mode Twamp.
     #[inline(always)]
-    pub fn judge(&self, octets: &[u8]) -> Judged
+    pub fn judge_test(&self, octets: &[u8]) -> Judged
+        requires { self.now.key.now.mode ≡ Twamp }
+        ensures { result ≡ judgement self.now.key.now.mode self.now.config.now octets.now }
+    {
+        judge_length(octets, TEST_LEN)
+    }
+
+    /// Whether a datagram is reflected, where its tail is asked only if it may say something.
+    #[inline(always)]
+    fn judge_stamp(&self, octets: &[u8]) -> Judged
         ensures { result ≡ judgement self.now.key.now.mode self.now.config.now octets.now }
     {
         if self.may_redirect() {
             return self.judge_whole(octets);
         }
         self.judge_base(octets)
+    }
+
+    /// Whether a datagram of the session is reflected: not where it is shorter than the base packet of the session's
+    /// mode, in mode Auth not where the HMAC of its base packet is another, and not where its tail asks for no reply.
+    #[inline(always)]
+    pub fn judge(&self, octets: &[u8]) -> Judged
+        ensures { result ≡ judgement self.now.key.now.mode self.now.config.now octets.now }
+    {
+        match self.key.mode {
+            Mode::Twamp => self.judge_test(octets),
+            Mode::Plain | Mode::Auth => self.judge_stamp(octets),
+        }
     }
 }
 

@@ -1,17 +1,16 @@
 //! The reflection of a datagram (RFC 8762, section 4.3; RFC 9503, sections 3 and 4; RFC 5357, section 4.2).
 
-ghost use Rattle.std.specs.Prelude.{◌≡◌, ◌≤◌, ◌||◌, false, IsSome, List, length};
+ghost use Rattle.std.specs.Prelude.{◌≡◌, ◌≤◌, false, IsSome, List, length};
 ghost use Rattle.refl_types.specs.HmacKey.{HasHmacKey};
 ghost use Rattle.refl_types.specs.Limits.{datagram_limit};
 ghost use Rattle.refl_types.specs.declared.types.Mode.TheVariants.{Plain, Auth, Twamp};
 ghost use Rattle.reflect_core.specs.declared.judging.Judged.TheVariants.{Reflect};
 ghost use Rattle.reflect_core.specs.Judgement.{judgement};
 ghost use Rattle.reflect_core.specs.Arrived.{arrived};
-ghost use Rattle.reflect_core.specs.Ends.{has_intact_tail, plan_after};
+ghost use Rattle.reflect_core.specs.Ends.{has_intact_tail, may_redirect, plan_after};
 ghost use Rattle.reflect_core.specs.Reflection.{WritesPlain, WritesAuth, WritesTest, reflection, IsReply};
-ghost use Rattle.tlv_chain.specs.Tlv.{destination_node_address, return_path};
-ghost use Rattle.tlv_actions.specs.Rows.{is_understood};
 ghost use Rattle.refl_types.specs.declared.types.Endpoint.{Endpoint};
+ghost use Rattle.refl_types.specs.declared.types.Meta.{Meta};
 
 use crate::base::reply_base;
 use crate::ends::{Ends, ends_of, usual_ends};
@@ -35,13 +34,16 @@ pub struct Reply {
     pub len: usize,
 }
 
+/// What stands where an end doesn't matter.
+const NO_END: Endpoint = Endpoint {
+    address: Address::V4([0; 4]),
+    port: 0,
+};
+
 /// What the TLVs of a reply tell of a plan, where none of them is of RFC 9503. The ends aren't told by TLVs.
 const NO_PLACES: Plan = Plan {
     from: 0,
-    to: Endpoint {
-        address: Address::V4([0; 4]),
-        port: 0,
-    },
+    to: NO_END,
     nine: None,
     own_at: None,
     path_at: None,
@@ -102,13 +104,15 @@ fn reflect_plain(
 }
 
 /// Writes the reply of an authenticated STAMP session, and says whether the integrity of the tail hasn't failed. It
-/// stands out of line and takes copies, so that the fields of an unauthenticated datagram can stay in registers.
+/// stands out of line and takes copies of what it needs, so that the fields of an unauthenticated datagram can stay in
+/// registers.
 #[inline(never)]
 fn reflect_auth(
     config: &KeyedConfig,
     plan: &Plan,
     draw: Draw,
-    meta: Meta,
+    ttl: Option<u8>,
+    arrival: u64,
     input: &[u8],
     out: &mut [u8],
 ) -> bool
@@ -116,10 +120,17 @@ fn reflect_auth(
     requires judged { 112 ≤ length input.now }
     requires room { length input.now ≤ length out.old }
     ensures intact { result ≡ has_intact_tail 112 Auth config.now input.now }
-    ensures octets { (locals : List Endpoint) → WritesAuth config.now plan.now draw (record { meta = meta; octets = input.now; locals = locals }) out.old out.new }
+    ensures octets { (meta : Meta) (locals : List Endpoint) → meta.ttl ≡ ttl → meta.arrival ≡ arrival → WritesAuth config.now plan.now draw (record { meta = meta; octets = input.now; locals = locals }) out.old out.new }
 {
     let Some(key) = config.hmac_key() else {
         unreachable!();
+    };
+    let meta = Meta {
+        local: 0,
+        peer: NO_END,
+        len: input.len(),
+        ttl,
+        arrival,
     };
     let sender = auth_sender(input);
     let base = reply_base(config.as_parts(), &draw, &meta, &sender);
@@ -160,37 +171,40 @@ impl Session<'_> {
     /// Whether a tail of the session may say from where and to whom its reply is sent.
     #[inline(always)]
     pub fn may_redirect(&self) -> bool
-        ensures { result ≡ (is_understood self.now.config.now destination_node_address || is_understood self.now.config.now return_path) }
+        ensures { result ≡ may_redirect self.now.config.now }
     {
         may_redirect(self.config.config())
     }
 
-    /// Writes the reply, where no tail may say from where and to whom it is sent.
+    /// Writes the reply as `reflect` does, where no tail may say from where and to whom it is sent, and says how many octets
+    /// it has: in mode Twamp, and where `may_redirect` is false. It is sent from where the datagram arrived to its sender,
+    /// whatever the reflector's own addresses are.
     #[inline(always)]
-    fn reflect_usual(&self, datagram: &Datagram, draw: &Draw, out: &mut [u8]) -> Reply
-        requires usual { (is_understood self.now.config.now destination_node_address || is_understood self.now.config.now return_path) ≡ false }
-        requires judged { judgement self.now.key.now.mode self.now.config.now datagram.now.octets.now ≡ Reflect }
-        requires limit { length datagram.now.octets.now ≤ datagram_limit }
+    pub fn reflect_usual(&self, meta: &Meta, octets: &[u8], draw: &Draw, out: &mut [u8]) -> usize
+        requires usual { (self.now.key.now.mode ≡ Twamp → ⊥) → may_redirect self.now.config.now ≡ false }
+        requires judged { judgement self.now.key.now.mode self.now.config.now octets.now ≡ Reflect }
+        requires limit { length octets.now ≤ datagram_limit }
         requires room { 65536 ≤ length out.old }
-        ensures reply { IsReply (reflection self.now.key.now self.now.extra.now self.now.config.now draw.now (arrived datagram.now)) result out.old out.new }
-        ensures limit { result.len ≤ datagram_limit }
-        ensures size { (self.now.key.now.mode ≡ Twamp → ⊥) → result.len ≡ length datagram.now.octets.now }
+        ensures reply { (locals : List Endpoint) → IsReply (reflection self.now.key.now self.now.extra.now self.now.config.now draw.now (record { meta = meta.now; octets = octets.now; locals = locals })) (record { from = meta.now.local; to = meta.now.peer; len = result }) out.old out.new }
+        ensures limit { result ≤ datagram_limit }
+        ensures size { (self.now.key.now.mode ≡ Twamp → ⊥) → result ≡ length octets.now }
     {
         let config = self.config;
-        let ends = usual_ends(datagram.meta);
+        let datagram = Datagram {
+            meta,
+            octets,
+            locals: &[],
+        };
         match self.key.mode {
             Mode::Plain => {
-                let _intact = reflect_plain(config, &NO_PLACES, draw, datagram, out);
-                reply_of(&ends, datagram.octets.len())
+                let _intact = reflect_plain(config, &NO_PLACES, draw, &datagram, out);
+                octets.len()
             }
-            Mode::Twamp => {
-                let len = reflect_test(self.extra, config, draw, datagram, out);
-                reply_of(&ends, len)
-            }
+            Mode::Twamp => reflect_test(self.extra, config, draw, &datagram, out),
             Mode::Auth => {
-                let input = datagram.octets;
-                let _intact = reflect_auth(config, &NO_PLACES, *draw, *datagram.meta, input, out);
-                reply_of(&ends, input.len())
+                let (ttl, arrival) = (meta.ttl, meta.arrival);
+                let _intact = reflect_auth(config, &NO_PLACES, *draw, ttl, arrival, octets, out);
+                octets.len()
             }
         }
     }
@@ -231,7 +245,8 @@ impl Session<'_> {
             }
             Mode::Auth => {
                 let plan = plan_after(AUTH_LEN, config, &datagram);
-                let intact = reflect_auth(config, &plan, draw, meta, octets, out);
+                let (ttl, arrival) = (meta.ttl, meta.arrival);
+                let intact = reflect_auth(config, &plan, draw, ttl, arrival, octets, out);
                 reply_of(&ends_of(intact, &plan, &meta), octets.len())
             }
         }
@@ -256,7 +271,8 @@ impl Session<'_> {
             } = *datagram;
             return self.reflect_planned(*meta, octets, locals, *draw, out);
         }
-        self.reflect_usual(datagram, draw, out)
+        let len = self.reflect_usual(datagram.meta, datagram.octets, draw, out);
+        reply_of(&usual_ends(datagram.meta), len)
     }
 }
 

@@ -41,7 +41,7 @@ pub const REPLY_AT: usize = 31;
 
 /// Writes the answer around a reply of as many octets, which stands from octet 31 on already. The answer's length is
 /// 31 more. The reply and what follows it stay.
-#[inline]
+#[inline(always)]
 pub fn frame_reply(from: u16, to: &Endpoint, number: u32, len: usize, out: &mut [u8])
     requires room { 31 + len ≤ length out.old }
     requires len { len ≤ datagram_limit }

@@ -53,17 +53,6 @@ pub record HasSet (t : Table) (s : Setting) (a : SetAnswer) (ss : List Session) 
   pub answer : a ≡ set_answer t s
   pub stands : StandIn ss rows (after_setting (set_answer t s) t s)
 
--- a datagram of the session that is reflected
-pub record IsReflected (s : Session) (octets : List ℕ) : Type 0 where
-  pub judged : judgement s.key.mode s.config octets ≡ Reflect
-  pub limit : length octets ≤ datagram_limit
-
--- the answer to such a datagram was written at the front, n octets, where these are the reflector's own addresses
-pub record IsSent (locals : List Endpoint) (s : Session) (d : Datagram) (before written : List ℕ) (n : ℕ) : Type 0 where
-  pub octets : (e : Entry) → StandsFor s e → written ≡ answer_octets (Sent (sending locals e d)) ++ drop n before
-  pub len : (e : Entry) → StandsFor s e → n ≡ length (answer_octets (Sent (sending locals e d)))
-  pub fits : n ≤ answer_limit
-
 -- the answer to a datagram was written at the front, n octets, and the sessions after it are kept
 pub record IsArrived (t : Table) (new : List Session) (d : Datagram) (before written : List ℕ) (n : ℕ) : Type 0 where
   pub octets : written ≡ answer_octets (answer t (Arrives d)) ++ drop n before

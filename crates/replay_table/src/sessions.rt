@@ -12,11 +12,10 @@ ghost use Rattle.replay_table.specs.Stands.{SessionsStand, Stands, IsArrived, Is
 use crate::accepting::CONFIGS;
 use crate::changing::{close, set};
 use crate::opening::open;
-use crate::reply::write_reflection;
+use crate::reply::serve;
 use crate::session::Session;
 use config_rows::RowBook;
 use refl_types::{Address, LocalAddr, Memory, Meta, Silent};
-use reflect_core::Judged;
 use replay_format::{Outcome, Record, UnsentCause, write_outcome};
 use session_key::Arrival;
 use std::alloc::Global;
@@ -101,13 +100,11 @@ fn arrive(
     let Some(place) = place_of(list, meta, octets) else {
         return write_unsent(UnsentCause::NoSession, out);
     };
-    let session = &list[place];
-    match session.reflector().judge(octets) {
-        Judged::Silent(Silent::Short) => write_unsent(UnsentCause::Short, out),
-        Judged::Silent(Silent::BadHmac) => write_unsent(UnsentCause::BadHmac, out),
-        Judged::Silent(Silent::NoReply) => write_unsent(UnsentCause::NoReply, out),
-        Judged::Reflect => {
-            let len = write_reflection(session, meta, t3, octets, locals, out);
+    match serve(&list[place], meta, t3, octets, locals, out) {
+        Err(Silent::Short) => write_unsent(UnsentCause::Short, out),
+        Err(Silent::BadHmac) => write_unsent(UnsentCause::BadHmac, out),
+        Err(Silent::NoReply) => write_unsent(UnsentCause::NoReply, out),
+        Ok(len) => {
             let session = &mut list[place];
             session.count = session.count.wrapping_add(1);
             len

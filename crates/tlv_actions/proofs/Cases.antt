@@ -1,7 +1,6 @@
 -- The cases of a reply's TLV.
 use Rattle.std.proofs.Common.{◌≡◌, ℕ, true, false, Bool, if◌then◌else◌, ◌&&◌, ◌||◌, not, List, length, take, subst, ◌∙◌, sym, ◌==◌, eqb, inl, inr, refl, ap}
-use Rattle.std.proofs.lemmas.Bool.{eqb-true}
-use Rattle.std.proofs.lemmas.Bool.Decides.{eqb_tells}
+use Rattle.std.proofs.lemmas.Bool.{eqb-true, ne_eqb}
 use Rattle.refl_types.specs.declared.config.ConfigParts.{ConfigParts}
 use Rattle.tlv_chain.specs.Tlv.{Tlv, unrecognized, malformed}
 use Rattle.tlv_actions.specs.declared.facts.Plan.{Plan}
@@ -32,8 +31,51 @@ pub acted_good : (c : ConfigParts) (p : Plan) (at : ℕ) (t : Tlv) → is_malfor
 acted_good c p at t m = rw m refl
 
 -- what was tested of the TLV's type and length
-pub malformed_same : (c : ConfigParts) (p : Plan) (at : ℕ) (t : Tlv) (first b known : Bool) (len : ℕ) → first ≡ is_at p.nine at → length t.value ≡ len → b ≡ is_malformed c first t.kind len → b ≡ known → is_malformed_at c p at t ≡ known
-malformed_same c p at t first b known len f l e k = ap (λ (n : ℕ). is_malformed c (is_at p.nine at) t.kind n) l ∙ ap (λ (x : Bool). is_malformed c x t.kind len) (sym f) ∙ sym e ∙ k
+pub malformed_same : (c : ConfigParts) (p : Plan) (at : ℕ) (t : Tlv) (b known : Bool) (len : ℕ) → length t.value ≡ len → b ≡ is_malformed c (is_at p.nine at) t.kind len → b ≡ known → is_malformed_at c p at t ≡ known
+malformed_same c p at t b known len l e k = ap (λ (n : ℕ). is_malformed c (is_at p.nine at) t.kind n) l ∙ sym e ∙ k
+
+-- Extra Padding is understood, has any length, and comes back as it was with flags 0
+
+pub padding_reply : (c : ConfigParts) (f : Facts) (at : ℕ) (t : Tlv) → t.kind ≡ 1 → (let u : Tlv = record t { flags = 0 } in u) ≡ reply_tlv c f at t
+unfolding reply_tlv is_malformed is_understood has_valid_length
+padding_reply c f at t k = rw k refl
+
+pub padding_done : (c : ConfigParts) (p : Plan) (at : ℕ) (t : Tlv) → t.kind ≡ 1 → Done ≡ acted_on c p at t
+unfolding is_malformed is_understood has_valid_length
+padding_done c p at t k = rw k refl
+
+-- ---- the test of a TLV whose type is understood
+
+and_valid : (u v f : Bool) → v ≡ true → false ≡ (u && not v && f)
+and_valid true true f e = refl
+and_valid false true f e = refl
+and_valid u false f e = absurd cc
+
+and_other : (u v f n : Bool) → u ≡ true → v ≡ false → n ≡ false → true ≡ (u && not v && (f || not n))
+and_other true false true n e g h = refl
+and_other true false false false e g h = refl
+and_other true false false true e g h = absurd cc
+and_other true true f n e g h = absurd cc
+and_other false v f n e g h = absurd cc
+
+and_nine : (u v f n : Bool) → u ≡ true → v ≡ false → n ≡ true → f ≡ (u && not v && (f || not n))
+and_nine true false true n e g h = refl
+and_nine true false false true e g h = refl
+and_nine true false false false e g h = absurd cc
+and_nine true true f n e g h = absurd cc
+and_nine false v f n e g h = absurd cc
+
+pub valid_is : (c : ConfigParts) (first : Bool) (kind len : ℕ) → has_valid_length kind len ≡ true → false ≡ is_malformed c first kind len
+unfolding is_malformed
+valid_is c first kind len v = and_valid (is_understood c kind) (has_valid_length kind len) (first || not (eqb kind 9)) v
+
+pub other_is : (c : ConfigParts) (first : Bool) (kind len : ℕ) → is_understood c kind ≡ true → has_valid_length kind len ≡ false → (kind ≡ 9 → ⊥) → not (eqb kind 9) ≡ is_malformed c first kind len
+unfolding is_malformed
+other_is c first kind len u v n = ap not (ne_eqb kind 9 n) ∙ and_other (is_understood c kind) (has_valid_length kind len) first (eqb kind 9) u v (ne_eqb kind 9 n)
+
+pub nine_is : (c : ConfigParts) (first : Bool) (kind len : ℕ) → is_understood c kind ≡ true → has_valid_length kind len ≡ false → kind ≡ 9 → first ≡ is_malformed c first kind len
+unfolding is_malformed
+nine_is c first kind len u v n = and_nine (is_understood c kind) (has_valid_length kind len) first (eqb kind 9) u v (ap (λ (k : ℕ). eqb k 9) n)
 
 -- ---- what isn't malformed has a valid length
 
@@ -73,15 +115,8 @@ value_3 c n t k = rw k refl
 pub value_5 : (c : ConfigParts) (n : ℕ) (t : Tlv) → t.kind ≡ 5 → measured n (take 4 t.value) ≡ reply_value c n t
 value_5 c n t k = rw k refl
 
-is_not : (a b : ℕ) → (a ≡ b → ⊥) → eqb a b ≡ false
-is_not a b ne =
-    elim (eqb_tells a b) [
-      | inl p ↦ absurd (ne p.1)
-      | inr p ↦ p.0
-    ]
-
 other : (kind : ℕ) (info m value : List ℕ) → (kind ≡ 3 → ⊥) → (kind ≡ 5 → ⊥) → value ≡ (if kind == 3 then info else (if kind == 5 then m else value))
-other kind info m value a b = rw (is_not kind 3 a, is_not kind 5 b) refl
+other kind info m value a b = rw (ne_eqb kind 3 a, ne_eqb kind 5 b) refl
 
 pub value_other : (c : ConfigParts) (n : ℕ) (t : Tlv) → (t.kind ≡ 3 → ⊥) → (t.kind ≡ 5 → ⊥) → t.value ≡ reply_value c n t
 value_other c n t a b = other t.kind c.info (measured n (take 4 t.value)) t.value a b

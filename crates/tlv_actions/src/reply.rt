@@ -5,11 +5,12 @@ ghost use Rattle.tlv_chain.specs.Walking.{tlv_at};
 ghost use Rattle.tlv_actions.specs.Rows.{WritesTlv, HoldsTlv, facts_of, tlv_of, reply_tlv, acted_on};
 
 use crate::facts::ReplyFacts;
-use crate::rows::{flags_at, is_at, is_malformed, is_understood, measured};
+use crate::rows::{flags_at, is_malformed_at, is_understood, measured};
 use octet_format::{field4, put};
 use refl_types::{Config, ConfigParts};
 use tlv_chain::{
-    DIRECT_MEASUREMENT, HEADER_LEN, MALFORMED, Span, TIMESTAMP_INFORMATION, UNRECOGNIZED,
+    DIRECT_MEASUREMENT, EXTRA_PADDING, HEADER_LEN, MALFORMED, Span, TIMESTAMP_INFORMATION,
+    UNRECOGNIZED,
 };
 
 /// Whether the TLVs after this one are processed.
@@ -58,11 +59,16 @@ fn answer(
     ensures octets { WritesTlv out.old span.now (reply_tlv parts.now (facts_of facts.now) span.now.at (tlv_of span.now value.now)) out.new }
     ensures acted { result ≡ acted_on parts.now facts.now.plan.now span.now.at (tlv_of span.now value.now) }
 {
+    // The type that most TLVs have: it is understood, and has any length.
+    if span.kind == EXTRA_PADDING {
+        write_flags(span, 0, value, out);
+        return Acted::Done;
+    }
     if !is_understood(parts, span.kind) {
         write_flags(span, UNRECOGNIZED, value, out);
         return Acted::Done;
     }
-    if is_malformed(parts, is_at(&facts.plan.nine, span.at), span.kind, span.len) {
+    if is_malformed_at(facts.plan, span.at, span.kind, span.len) {
         write_flags(span, MALFORMED, value, out);
         return Acted::Malformed;
     }

@@ -1,6 +1,7 @@
 //! Which TLVs are understood, and what is measured (RFC 8972, sections 4.1, 4.3, 4.5 and 4.8; RFC 9503, sections 3 and 4).
 
-ghost use Rattle.std.specs.Prelude.{◌≡◌};
+ghost use Rattle.std.specs.Prelude.{◌≡◌, true};
+ghost use Rattle.refl_types.specs.declared.config.ConfigParts.{ConfigParts};
 ghost use Rattle.tlv_actions.specs.Rows.{is_understood, has_valid_length, is_malformed, is_at, flags_at, measured};
 
 use crate::facts::Plan;
@@ -64,6 +65,17 @@ pub fn is_at(place: &Option<usize>, at: usize) -> bool
         None => false,
         Some(place) => *place == at,
     }
+}
+
+/// Whether the TLV at a place, whose type is understood, is malformed. The plan is asked for a Destination Node Address alone.
+#[inline]
+pub fn is_malformed_at(plan: &Plan, at: usize, kind: u8, len: u16) -> bool
+    ensures { (c : ConfigParts) → is_understood c kind ≡ true → result ≡ is_malformed c (is_at plan.now.nine at) kind len }
+{
+    if has_valid_length(kind, len) {
+        return false;
+    }
+    kind != DESTINATION_NODE_ADDRESS || is_at(&plan.nine, at)
 }
 
 /// The flags of the TLV at a place whose type is understood and that isn't malformed.

@@ -47,7 +47,7 @@ returns-in-Auth-clause-reply c =
     let ends = chosen ∙ auth_ends k.mode config d c.in-Auth.is in
     replied (reflection k x config draw d) reply.result c.ends_of-in-Auth.result old call.new.out (auth_reflection config (plan_after 112 config d) draw d) (length d.octets) reply.ensures.from reply.ensures.to reply.ensures.len
     (ap (λ (e : Ends). e.from) ends) (ap (λ (e : Ends). e.to) ends)
-    (call.ensures.octets d.locals ∙ ap (λ (p : Plan). auth_reflection config p draw d ++ drop (length d.octets) old) plan.ensures)
+    (call.ensures.octets d.meta d.locals refl refl ∙ ap (λ (p : Plan). auth_reflection config p draw d ++ drop (length d.octets) old) plan.ensures)
     (auth_is k.mode x config draw d c.in-Auth.is) (omega arith) (omega arith)
 
 pub returns-in-Twamp-clause-reply : goal.returns-in-Twamp-clause-reply

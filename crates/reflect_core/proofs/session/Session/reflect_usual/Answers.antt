@@ -1,60 +1,67 @@
-use Rattle.std.proofs.Common.{◌≡◌, ◌++◌, ◌∙◌, Bool, if◌then◌else◌, List, ℕ, length, drop, ap, sym, refl, arith}
-use Rattle.refl_types.specs.declared.types.Mode.TheVariants.{Plain, Auth}
-use Rattle.tlv_actions.specs.declared.facts.Plan.{Plan}
+use Rattle.std.proofs.Common.{◌≡◌, ◌++◌, ◌∙◌, List, ℕ, length, drop, ap, sym, refl, arith}
+use Rattle.refl_types.specs.declared.types.Mode.TheVariants.{Plain, Auth, Twamp}
 use Rattle.reflect_core.specs.declared.ends.Ends.{Ends}
-use Rattle.reflect_core.specs.Arrived.{Arrived, arrived}
-use Rattle.reflect_core.specs.Ends.{has_intact_tail, usual_ends, planned_ends, plan_after, ends_after}
+use Rattle.reflect_core.specs.declared.reflecting.Reply.{Reply}
+use Rattle.reflect_core.specs.Arrived.{Arrived}
+use Rattle.reflect_core.specs.Ends.{usual_ends, plan_after}
 use Rattle.reflect_core.specs.Reflection.{plain_reflection, auth_reflection, test_reflection, reflection}
 use Rattle.reflect_core.proofs.Modes.{plain_is, auth_is, test_is, plain_ends, auth_ends, test_ends, replied}
 use Rattle.reflect_core.proofs.Usual.{HasNoPlaces, plain_usual, auth_usual, ends_usual}
 use Rattle.reflect_core.proofs.session.Session.reflect_usual.Goals as goal
 
 pub returns-in-Plain-clause-reply : goal.returns-in-Plain-clause-reply
-returns-in-Plain-clause-reply c =
+returns-in-Plain-clause-reply c = λ locals.
     let k = c.args.self.now.key.now in
     let x = c.args.self.now.extra.now in
     let config = c.args.self.now.config.now in
     let draw = c.args.draw.now in
-    let d : Arrived = arrived c.args.datagram.now in
+    let m = c.args.meta.now in
+    let d : Arrived = record { meta = m; octets = c.args.octets.now; locals = locals } in
     let old = c.args.out.now in
+    let usual = c.requires.usual (λ e. let x : Plain ≡ Twamp = sym c.in-Plain.is ∙ e in cc) in
     let call = c.reflect_plain-intact in
-    let reply = c.reply_of in
-    let ends = c.usual_ends-ends.ensures ∙ ends_usual 44 Plain config d c.requires.usual ∙ plain_ends k.mode config d c.in-Plain.is in
+    let n : ℕ = length d.octets in
+    let reply : Reply = record { from = m.local; to = m.peer; len = n } in
+    let ends = ends_usual 44 Plain config d usual ∙ plain_ends k.mode config d c.in-Plain.is in
     let none : HasNoPlaces _ = record { nine = refl; own_at = refl; path_at = refl } in
-    replied (reflection k x config draw d) reply.result c.usual_ends-ends.result old call.new.out (plain_reflection config (plan_after 44 config d) draw d) (length d.octets) reply.ensures.from reply.ensures.to reply.ensures.len
+    replied (reflection k x config draw d) reply (usual_ends m) old call.new.out (plain_reflection config (plan_after 44 config d) draw d) n refl refl refl
     (ap (λ (e : Ends). e.from) ends) (ap (λ (e : Ends). e.to) ends)
-    (call.ensures.octets ∙ ap (λ (o : List ℕ). o ++ drop (length d.octets) old) (plain_usual config draw d _ c.requires.usual none))
+    (call.ensures.octets ∙ ap (λ (o : List ℕ). o ++ drop n old) (plain_usual config draw d _ usual none))
     (plain_is k.mode x config draw d c.in-Plain.is) (omega arith) (omega arith)
 
 pub returns-in-Auth-clause-reply : goal.returns-in-Auth-clause-reply
-returns-in-Auth-clause-reply c =
+returns-in-Auth-clause-reply c = λ locals.
     let k = c.args.self.now.key.now in
     let x = c.args.self.now.extra.now in
     let config = c.args.self.now.config.now in
     let draw = c.args.draw.now in
-    let d : Arrived = arrived c.args.datagram.now in
+    let m = c.args.meta.now in
+    let d : Arrived = record { meta = m; octets = c.args.octets.now; locals = locals } in
     let old = c.args.out.now in
+    let usual = c.requires.usual (λ e. let x : Auth ≡ Twamp = sym c.in-Auth.is ∙ e in cc) in
     let call = c.reflect_auth-intact in
-    let reply = c.reply_of-in-Auth in
-    let ends = c.usual_ends-ends.ensures ∙ ends_usual 112 Auth config d c.requires.usual ∙ auth_ends k.mode config d c.in-Auth.is in
+    let n : ℕ = length d.octets in
+    let reply : Reply = record { from = m.local; to = m.peer; len = n } in
+    let ends = ends_usual 112 Auth config d usual ∙ auth_ends k.mode config d c.in-Auth.is in
     let none : HasNoPlaces _ = record { nine = refl; own_at = refl; path_at = refl } in
-    replied (reflection k x config draw d) reply.result c.usual_ends-ends.result old call.new.out (auth_reflection config (plan_after 112 config d) draw d) (length d.octets) reply.ensures.from reply.ensures.to reply.ensures.len
+    replied (reflection k x config draw d) reply (usual_ends m) old call.new.out (auth_reflection config (plan_after 112 config d) draw d) n refl refl refl
     (ap (λ (e : Ends). e.from) ends) (ap (λ (e : Ends). e.to) ends)
-    (call.ensures.octets d.locals ∙ ap (λ (o : List ℕ). o ++ drop (length d.octets) old) (auth_usual config draw d _ c.requires.usual none))
+    (call.ensures.octets m locals refl refl ∙ ap (λ (o : List ℕ). o ++ drop n old) (auth_usual config draw d _ usual none))
     (auth_is k.mode x config draw d c.in-Auth.is) (omega arith) (omega arith)
 
 pub returns-in-Twamp-clause-reply : goal.returns-in-Twamp-clause-reply
-returns-in-Twamp-clause-reply c =
+returns-in-Twamp-clause-reply c = λ locals.
     let k = c.args.self.now.key.now in
     let x = c.args.self.now.extra.now in
     let config = c.args.self.now.config.now in
     let draw = c.args.draw.now in
-    let d : Arrived = arrived c.args.datagram.now in
+    let m = c.args.meta.now in
+    let d : Arrived = record { meta = m; octets = c.args.octets.now; locals = locals } in
     let old = c.args.out.now in
-    let call = c.reflect_test-len in
-    let reply = c.reply_of-in-Twamp in
-    let ends = c.usual_ends-ends.ensures ∙ test_ends k.mode config d c.in-Twamp.is in
-    replied (reflection k x config draw d) reply.result c.usual_ends-ends.result old call.new.out (test_reflection x config draw d) call.result reply.ensures.from reply.ensures.to reply.ensures.len
+    let call = c.reflect_test in
+    let reply : Reply = record { from = m.local; to = m.peer; len = call.result } in
+    let ends = test_ends k.mode config d c.in-Twamp.is in
+    replied (reflection k x config draw d) reply (usual_ends m) old call.new.out (test_reflection x config draw d) call.result refl refl refl
     (ap (λ (e : Ends). e.from) ends) (ap (λ (e : Ends). e.to) ends)
     call.ensures.octets
     (test_is k.mode x config draw d c.in-Twamp.is) (omega arith) (omega arith)
