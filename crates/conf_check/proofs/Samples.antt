@@ -1,5 +1,5 @@
 -- The lines, computed.
-use Rattle.std.proofs.Common.{◌≡◌, ℕ, List, length, codes, refl}
+use Rattle.std.proofs.Common.{◌≡◌, length, codes, refl}
 use Rattle.std.specs.Fmt.{digits}
 use Rattle.conf_text.specs.Faults.{NotToml, Unknown, Missing, BadValue, Limit}
 use Rattle.conf_text.specs.File.{File}

@@ -1,5 +1,5 @@
 -- What a check of a configuration file writes, by the status with which it ends (this project's own).
-use Rattle.std.specs.Prelude.{◌≡◌, ◌⊎◌, ℕ, ◌<◌, List, length, Option, Result, Ok, Err, if◌then◌else◌, nat_lt}
+use Rattle.std.specs.Prelude.{◌≡◌, ◌⊎◌, ℕ, List, length, Option, Result, Ok, Err, if◌then◌else◌, nat_lt}
 use Rattle.std.specs.Io.KnownBytes.{Appends}
 use Rattle.port_io.specs.Outside.{Rises, AppendsFront}
 use Rattle.port_io.specs.Files as port

@@ -1,5 +1,5 @@
 -- What a load of a configuration file says (this project's own).
-use Rattle.std.specs.Prelude.{◌≡◌, ℕ, ◌^◌, ◌<◌, ◌≤◌, List, length, Option, Some, None, IfSome, ⊤, Result, Ok, Err}
+use Rattle.std.specs.Prelude.{◌≡◌, ℕ, ◌^◌, ◌<◌, ◌≤◌, List, length, Option, Some, IfSome, Result, Ok, Err}
 use Rattle.port_io.specs.Outside.{Rises}
 use Rattle.port_io.specs.Files as port
 use Rattle.port_io.specs.Files.{content, content_length}
