@@ -1,7 +1,6 @@
 //! Ports over the system's sockets.
 
-ghost use Rattle.std.specs.Prelude.{◌≡◌, ◌<◌, length, vec_len};
-ghost use Rattle.std.specs.Thread.{IsSend};
+ghost use Rattle.std.specs.Prelude.{◌≡◌, ◌<◌, length};
 
 use super::{LOOPBACK, LOOPBACK_6, PATIENCE, expect};
 use crate::address::{endpoint_of, socket_addr_of};
@@ -9,12 +8,11 @@ use crate::ends::Ends;
 use crate::tcp_desk::TcpDesk;
 use crate::udp_port::UdpPort;
 use net_io::{DATAGRAM_ROOM, Desk, Got, Port};
-use port_io::Failed;
 use refl_types::{Endpoint, Meta};
+use std::alloc::Global;
 use std::io::{self, ErrorKind};
 use std::net::UdpSocket;
 use std::test::Fail;
-use std::thread::{Threads, join_mut};
 use std::time::Duration;
 
 /// A socket of the test, and its end.
@@ -44,50 +42,14 @@ fn datagram<P: Port>(port: &mut P, buf: &mut [u8]) -> io::Result<Meta>
     Err(io::Error::from(ErrorKind::TimedOut))
 }
 
-/// A port, and room for a datagram.
-#[derive(Drop)]
-struct Seat<P: Drop> {
-    port: P,
-    buf: Vec<u8>,
-    ghost room: { vec_len buf ≡ 65_536 },
-}
-
-/// A port that is bound to nothing yet, with its room.
-fn unbound_seat(rt: HostRuntime, ends: &Ends) -> Result<Seat<UdpPort<HostRuntime>>, Fail> {
-    let port = UdpPort::make(rt, rt.alloc(), ends)?;
-    let buf = vec![in rt.alloc(); 0u8; DATAGRAM_ROOM]?;
-    Ok(Seat { port, buf })
-}
-
-/// What the next receive of a port gives.
-fn receive<P: Port + Drop>(seat: &mut Seat<P>) -> Result<Got, Failed>
-    requires { 0 < length (P.bound seat.old.port) }
+/// The next datagram of a port, with its octets.
+fn next<P: Port>(port: &mut P, alloc: Global) -> io::Result<(Meta, Vec<u8>)>
+    requires { 0 < length (P.bound port.old) }
+    ensures { P.bound port.new ≡ P.bound port.old }
 {
-    seat.port.recv(&mut seat.buf)
-}
-
-/// The next datagrams of two ports, each in a thread of its own.
-fn both<R: Threads, P: Port + Drop + Send>(
-    rt: &R,
-    first: &mut Seat<P>,
-    second: &mut Seat<P>,
-) -> (io::Result<Meta>, io::Result<Meta>)
-    requires first { 0 < length (P.bound first.old.port) }
-    requires second { 0 < length (P.bound second.old.port) }
-    ensures first { P.bound first.new.port ≡ P.bound first.old.port }
-    ensures second { P.bound second.new.port ≡ P.bound second.old.port }
-{
-    join_mut(
-        rt,
-        &mut ||
-            requires { IsSend P.row × (0 < length (P.bound first.now.port)) }
-            ensures { P.bound first.exit.now.port ≡ P.bound first.entry.now.port }
-        { datagram(&mut first.port, &mut first.buf) },
-        &mut ||
-            requires { 0 < length (P.bound second.now.port) }
-            ensures { P.bound second.exit.now.port ≡ P.bound second.entry.now.port }
-        { datagram(&mut second.port, &mut second.buf) },
-    )
+    let mut buf = vec![in alloc; 0u8; DATAGRAM_ROOM]?;
+    let meta = datagram(port, &mut buf)?;
+    Ok((meta, buf))
 }
 
 /// The octets of a datagram, each of which the test has chosen.
@@ -100,7 +62,8 @@ const C: &[u8] = b"ccc";
 const D: &[u8] = b"dddd";
 
 /// Which of four datagrams this is: two senders have sent two each, one to each local address.
-fn which(meta: &Meta, buf: &[u8], near: Endpoint, far: Endpoint) -> Option<usize> {
+fn which(taken: io::Result<(Meta, Vec<u8>)>, near: Endpoint, far: Endpoint) -> Option<usize> {
+    let (meta, buf) = taken.ok()?;
     let octets = buf.get(..meta.len)?;
     [(A, 0, near), (B, 1, near), (C, 0, far), (D, 1, far)]
         .iter()
@@ -109,29 +72,34 @@ fn which(meta: &Meta, buf: &[u8], near: Endpoint, far: Endpoint) -> Option<usize
 
 #[test]
 fn two_ports_over_two_locals_take_each_datagram_once(rt: HostRuntime) -> Result<(), Fail> {
-    let ends = Ends::make(rt.alloc())?;
+    let alloc = rt.alloc();
+    let ends = Ends::make(alloc)?;
     let locals = [free(&rt, LOOPBACK)?, free(&rt, LOOPBACK)?];
     let (near, near_end) = socket(&rt, LOOPBACK)?;
     let (far, far_end) = socket(&rt, LOOPBACK)?;
-    let mut first = unbound_seat(rt, &ends)?;
-    let mut second = unbound_seat(rt, &ends)?;
-    first.port.open(&locals)?;
-    second.port.share(&first.port)?;
+    let mut first = UdpPort::make(rt, alloc, &ends)?;
+    let mut second = UdpPort::make(rt, alloc, &ends)?;
+    first.open(&locals)?;
+    second.share(&first)?;
     near.send_to(A, socket_addr_of(&locals[0]))?;
     near.send_to(B, socket_addr_of(&locals[1]))?;
     far.send_to(C, socket_addr_of(&locals[0]))?;
     far.send_to(D, socket_addr_of(&locals[1]))?;
 
-    let (one, two) = both(&rt, &mut first, &mut second);
-    let one = which(&one?, &first.buf, near_end, far_end);
-    let two = which(&two?, &second.buf, near_end, far_end);
-    let (three, four) = both(&rt, &mut first, &mut second);
-    let three = which(&three?, &first.buf, near_end, far_end);
-    let four = which(&four?, &second.buf, near_end, far_end);
-    let mut taken = [one, two, three, four];
+    let one = next(&mut first, alloc);
+    let two = next(&mut second, alloc);
+    let three = next(&mut second, alloc);
+    let four = next(&mut first, alloc);
+    let mut taken = [
+        which(one, near_end, far_end),
+        which(two, near_end, far_end),
+        which(three, near_end, far_end),
+        which(four, near_end, far_end),
+    ];
     taken.sort_unstable();
     assert_eq!(rt; taken, [Some(0), Some(1), Some(2), Some(3)]);
-    assert_eq!(rt; receive(&mut second)?, Got::Nothing);
+    let mut buf = vec![in alloc; 0u8; DATAGRAM_ROOM]?;
+    assert_eq!(rt; second.recv(&mut buf)?, Got::Nothing);
     Ok(())
 }
 
@@ -219,22 +187,29 @@ const LONGEST: usize = 65_507;
 const LONGEST_6: usize = 65_527;
 
 #[test]
-fn the_longest_datagram_comes_whole_and_a_longer_one_not(rt: HostRuntime) -> Result<(), Fail> {
+fn the_longest_datagram_comes_whole(rt: HostRuntime) -> Result<(), Fail> {
     let alloc = rt.alloc();
-    let mut sent = vec![in alloc; 7u8; LONGEST_6]?;
+    let sent = vec![in alloc; 7u8; LONGEST]?;
     let mut buf = vec![in alloc; 0u8; DATAGRAM_ROOM]?;
-    sent[LONGEST - 1] = 9;
     let mut port = UdpPort::make(rt, alloc, &Ends::make(alloc)?)?;
     let host = free(&rt, LOOPBACK)?;
     port.open(&[host])?;
     let (near, _) = socket(&rt, LOOPBACK)?;
-    near.send_to(&sent[..LONGEST], socket_addr_of(&host))?;
+    near.send_to(&sent, socket_addr_of(&host))?;
     let meta = datagram(&mut port, &mut buf)?;
-    assert_eq!(rt; buf.get(..meta.len), sent.get(..LONGEST));
+    assert_eq!(rt; buf.get(..meta.len), Some(sent.as_slice()));
+    Ok(())
+}
 
+#[test]
+fn a_longer_datagram_is_dropped(rt: HostRuntime) -> Result<(), Fail> {
+    let alloc = rt.alloc();
     let Ok((near, _)) = socket(&rt, LOOPBACK_6) else {
         return Ok(());
     };
+    let sent = vec![in alloc; 7u8; LONGEST_6]?;
+    let mut buf = vec![in alloc; 0u8; DATAGRAM_ROOM]?;
+    let mut port = UdpPort::make(rt, alloc, &Ends::make(alloc)?)?;
     let host = free(&rt, LOOPBACK_6)?;
     port.open(&[host])?;
     near.send_to(&sent, socket_addr_of(&host))?;
@@ -253,7 +228,9 @@ fn an_open_that_fails_binds_nothing_and_loses_nothing(rt: HostRuntime) -> Result
     let (near, taken) = socket(&rt, LOOPBACK)?;
     let other = free(&rt, LOOPBACK)?;
     port.open(&[host])?;
-    assert!(rt; port.open(&[other, taken]).is_err());
+    let Err(_) = port.open(&[other, taken]) else {
+        return Err(Fail::new("an address of another was bound"));
+    };
     assert!(rt; socket(&rt, other).is_ok());
     near.send_to(A, socket_addr_of(&host))?;
     let mut buf = vec![in alloc; 0u8; DATAGRAM_ROOM]?;
