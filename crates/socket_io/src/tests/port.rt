@@ -13,6 +13,7 @@ use std::alloc::Global;
 use std::io::{self, ErrorKind};
 use std::net::UdpSocket;
 use std::test::Fail;
+use std::thread::{Threads, join};
 use std::time::Duration;
 
 /// A socket of the test, and its end.
@@ -52,6 +53,27 @@ fn next<P: Port>(port: &mut P, alloc: Global) -> io::Result<(Meta, Vec<u8>)>
     Ok((meta, buf))
 }
 
+/// What two ports receive, each in a thread of its own.
+fn both<R: Threads, P: Port + Drop + Send>(
+    rt: &R,
+    alloc: Global,
+    mut first: P,
+    mut second: P,
+) -> (io::Result<(Meta, Vec<u8>)>, io::Result<(Meta, Vec<u8>)>)
+    requires first { 0 < length (P.bound first) }
+    requires second { 0 < length (P.bound second) }
+{
+    join(
+        rt,
+        move ||
+            requires { 0 < length (P.bound first) }
+        { next(&mut first, alloc) },
+        move ||
+            requires { 0 < length (P.bound second) }
+        { next(&mut second, alloc) },
+    )
+}
+
 /// The octets of a datagram, each of which the test has chosen.
 const A: &[u8] = b"a";
 
@@ -79,8 +101,10 @@ fn two_ports_over_two_locals_take_each_datagram_once(rt: HostRuntime) -> Result<
     let (far, far_end) = socket(&rt, LOOPBACK)?;
     let mut first = UdpPort::make(rt, alloc, &ends)?;
     let mut second = UdpPort::make(rt, alloc, &ends)?;
+    let mut buf = vec![in alloc; 0u8; DATAGRAM_ROOM]?;
     first.open(&locals)?;
     second.share(&first)?;
+    assert_eq!(rt; second.recv(&mut buf)?, Got::Nothing);
     near.send_to(A, socket_addr_of(&locals[0]))?;
     near.send_to(B, socket_addr_of(&locals[1]))?;
     far.send_to(C, socket_addr_of(&locals[0]))?;
@@ -88,8 +112,7 @@ fn two_ports_over_two_locals_take_each_datagram_once(rt: HostRuntime) -> Result<
 
     let one = next(&mut first, alloc);
     let two = next(&mut second, alloc);
-    let three = next(&mut second, alloc);
-    let four = next(&mut first, alloc);
+    let (three, four) = both(&rt, alloc, first, second);
     let mut taken = [
         which(one, near_end, far_end),
         which(two, near_end, far_end),
@@ -98,8 +121,6 @@ fn two_ports_over_two_locals_take_each_datagram_once(rt: HostRuntime) -> Result<
     ];
     taken.sort_unstable();
     assert_eq!(rt; taken, [Some(0), Some(1), Some(2), Some(3)]);
-    let mut buf = vec![in alloc; 0u8; DATAGRAM_ROOM]?;
-    assert_eq!(rt; second.recv(&mut buf)?, Got::Nothing);
     Ok(())
 }
 
