@@ -6,11 +6,14 @@ use Rattle.session_world.specs.Loads.{row_loads}
 use Rattle.session_rule.specs.declared.seats.Table.{Table}
 use Rattle.session_rule.specs.declared.seats.WorkerSeat.{WorkerSeat}
 use Rattle.session_rule.specs.Seats.{worker_steps}
+use Rattle.refl_types.specs.declared.types.Meta.{Meta}
 use Rattle.net_io.specs.Log.{Grows}
+use Rattle.net_io.specs.Port.{PortEntry, took}
 use Rattle.port_io.specs.Outside.{Rises}
 use Rattle.session_table.specs.Steps.{HasCome}
 use Rattle.session_table.specs.Knowing.{MaybeLoads}
 use Rattle.receive_worker.specs.Faults.{RisesBy}
+use Rattle.receive_worker.specs.Turn.{LastTook}
 
 pub grows_none : {E : Type 0} (l : Option (List E)) → Grows l l []
 grows_none None = tt
@@ -21,6 +24,12 @@ grows_then a b None x y p q = tt
 grows_then a None (Some n) x y p q = absurd q
 grows_then None (Some m) (Some n) x y p q = absurd p
 grows_then (Some l) (Some m) (Some n) x y p q = q ∙ ap (λ (r : List _). r ++ y) p ∙ append_assoc l x y
+
+-- a log that grew by a taking has it as its last entry
+pub grown_took : (a b : Option (List PortEntry)) (meta : Meta) (octets : List ℕ) → Grows a b (took meta octets ∷ []) → LastTook b meta octets
+grown_took a None meta octets h = tt
+grown_took None (Some l) meta octets h = absurd h
+grown_took (Some k) (Some l) meta octets h = (k, h)
 
 pub come_then : {t : Table} {a b c : WorkerSeat} {xs : List Step} → HasCome t a b (worker_steps b) → HasCome t b c xs → HasCome t a c (worker_steps c)
 come_then p q = record { steps = refl; number = q.number ∙ p.number; seat = q.seat; schedule = q.schedule }
