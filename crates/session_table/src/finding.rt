@@ -12,9 +12,10 @@ ghost use Rattle.session_table.specs.Visiting.{Visits, EndsWalk};
 
 use crate::found::{Found, Look, Seen, Sight};
 use crate::knowing::{KnownRows, know};
-use crate::loading::{load_config, load_key};
+use crate::loading::{load_config, load_key_words};
+use crate::sought::{Sought, extra_of};
 use refl_types::{Extra, Key, Meta};
-use session_key::{Query, place};
+use session_key::place;
 use session_rule::{Table, WorkerSeat, announce, look, retire_announcement};
 use session_world::{law_looks, law_visits, law_walks, law_words};
 use slot_word::unpack;
@@ -46,13 +47,13 @@ fn next(slot: u32, slots: u32) -> u32
 }
 
 /// Announces a slot, looks at it, and reads its key where it is open.
-fn look_at(table: &Table, seat: &mut WorkerSeat, slot: u32, query: &Query) -> Visit
+fn look_at(table: &Table, seat: &mut WorkerSeat, slot: u32, sought: &Sought) -> Visit
     requires same { IsWorkerOf table.now seat.old }
     requires inside { slot < (size_of table.now).slots }
-    ensures { Visits table.now seat.old seat.new slot query.now result }
+    ensures { Visits table.now seat.old seat.new slot sought.now result }
 {
     announce(table, seat, slot);
-    let fields = unpack(look(table, seat, slot, query));
+    let fields = unpack(look(table, seat, slot, sought.query()));
     if fields.closed {
         return if fields.generation == 0 {
             Visit::Unused
@@ -60,25 +61,24 @@ fn look_at(table: &Table, seat: &mut WorkerSeat, slot: u32, query: &Query) -> Vi
             Visit::Passed
         };
     }
-    let (key, extra) = load_key(table, seat, slot);
-    if query.matches(&key) {
-        Visit::Match {
+    let words = load_key_words(table, seat, slot);
+    match sought.matched(&words) {
+        Some(key) => Visit::Match {
             generation: fields.generation,
             row: fields.row,
             key,
-            extra,
-        }
-    } else {
-        Visit::Passed
+            extra: extra_of(&words),
+        },
+        None => Visit::Passed,
     }
 }
 
 /// Walks from the start for the query's sender on: each slot is announced, looked at, and passed where it isn't the session's;
 /// a slot that was never used ends the walk. A session that is met is held.
 #[inline]
-fn walk(table: &Table, seat: &mut WorkerSeat, query: &Query) -> Seen
+fn walk(table: &Table, seat: &mut WorkerSeat, sought: &Sought) -> Seen
     requires same { IsWorkerOf table.now seat.old }
-    ensures walks { EndsWalk (size_of table.now) (worker_steps seat.old) (worker_steps seat.new) query.now result }
+    ensures walks { EndsWalk (size_of table.now) (worker_steps seat.old) (worker_steps seat.new) sought.now result }
     ensures seat { HasCome table.now seat.old seat.new (worker_steps seat.new) }
 {
     law_looks();
@@ -86,11 +86,12 @@ fn walk(table: &Table, seat: &mut WorkerSeat, query: &Query) -> Seen
     law_walks();
     law_words();
     let slots = table.size().slots;
+    let query = sought.query();
     let mut slot = place(query.local, &query.peer, slots);
     let mut passed = 0;
     while passed < slots {
         passed += 1;
-        match look_at(table, seat, slot, query) {
+        match look_at(table, seat, slot, sought) {
             Visit::Match {
                 generation,
                 row,
@@ -127,8 +128,8 @@ pub fn find(table: &Table, seat: &mut WorkerSeat, meta: &Meta, octets: &[u8]) ->
     law_words();
     law_visits();
     let _size = table.size();
-    let query = Query::of(meta, octets);
-    match walk(table, seat, &query) {
+    let sought = Sought::of(meta, octets);
+    match walk(table, seat, &sought) {
         Seen::Held(sight) => {
             let config = load_config(table, seat, sight.row);
             Found::Held(Look {
@@ -163,8 +164,8 @@ pub fn find_by(
     law_words();
     law_visits();
     let _size = table.size();
-    let query = Query::of(meta, octets);
-    match walk(table, seat, &query) {
+    let sought = Sought::of(meta, octets);
+    match walk(table, seat, &sought) {
         Seen::Held(sight) => {
             know(table, seat, known, sight.row);
             Seen::Held(sight)

@@ -7,6 +7,7 @@ mod found;
 mod knowing;
 mod laws;
 mod loading;
+mod sought;
 
 pub use drawing::{draw, draw_by, retire};
 pub use finding::{find, find_by};

@@ -1,8 +1,8 @@
 //! Loads of the words of keys and rows.
 
 ghost use Rattle.std.specs.Prelude.{◌≡◌, ℕ, ◌<◌, ◌≤◌, true};
-ghost use Rattle.refl_types.specs.Keys.{is_sound};
-ghost use Rattle.session_world.specs.Keys.{key_list, row_list, key_of, extra_of};
+ghost use Rattle.session_key.specs.Words.{AreKeyWords};
+ghost use Rattle.session_world.specs.Keys.{key_list, row_list};
 ghost use Rattle.session_world.specs.Worker.{holds, names_row};
 ghost use Rattle.session_world.specs.declared.steps.Step.TheVariants.{LoadRow};
 ghost use Rattle.session_world.specs.Loads.{key_loads, row_loads, names_open};
@@ -11,13 +11,13 @@ ghost use Rattle.session_table.specs.Steps.{HasCome};
 ghost use Rattle.session_table.specs.Finding.{IsLoaded};
 
 use config_rows::{from_words, law_words as law_config_words};
-use refl_types::{Config, Extra, Key};
-use session_key::from_key_words;
+use refl_types::Config;
 use session_rule::{Table, WorkerSeat, load_key_word, load_row_word};
 use session_world::{law_visits, law_words};
 
-/// Loads the key words of the slot that the worker holds.
-fn load_key_words(table: &Table, seat: &mut WorkerSeat, slot: u32) -> [u64; 4]
+/// Loads the four key words of the slot that the worker holds.
+#[inline]
+fn load_four(table: &Table, seat: &mut WorkerSeat, slot: u32) -> [u64; 4]
     requires same { IsWorkerOf table.now seat.old }
     requires inside { slot < (size_of table.now).slots }
     requires held { holds (worker_steps seat.old) slot ≡ true }
@@ -30,18 +30,18 @@ fn load_key_words(table: &Table, seat: &mut WorkerSeat, slot: u32) -> [u64; 4]
     [first, second, third, fourth]
 }
 
-/// The key and the extra of the slot that the worker holds.
-pub fn load_key(table: &Table, seat: &mut WorkerSeat, slot: u32) -> (Key, Extra)
+/// The key words of the slot that the worker holds. They are those of a sound key and extra.
+#[inline]
+pub fn load_key_words(table: &Table, seat: &mut WorkerSeat, slot: u32) -> [u64; 4]
     requires same { IsWorkerOf table.now seat.old }
     requires inside { slot < (size_of table.now).slots }
     requires held { holds (worker_steps seat.old) slot ≡ true }
-    ensures loads { (word : ℕ → ℕ) × (result.0 ≡ key_of word) × (result.1 ≡ extra_of word) × HasCome table.now seat.old seat.new (key_loads slot word (worker_steps seat.old)) }
-    ensures sound { is_sound result.0 result.1 ≡ true }
+    ensures loads { (word : ℕ → ℕ) × (result ≡ key_list word) × HasCome table.now seat.old seat.new (key_loads slot word (worker_steps seat.old)) }
+    ensures sound { AreKeyWords result }
 {
     law_words();
     let _size = table.size();
-    let words = load_key_words(table, seat, slot);
-    from_key_words(&words)
+    load_four(table, seat, slot)
 }
 
 /// Loads a word of a row that some word has named.

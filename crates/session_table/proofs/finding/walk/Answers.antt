@@ -20,8 +20,9 @@ laws a b c d = record { looks = a; visits = b; round = c; words = d }
 pub loop-passed-init : goal.loop-passed-init
 unfolding start_of
 loop-passed-init c = let z : TableSize = size_of c.args.table.now in let same = c.size-slots.ensures.value in let limits = c.size-slots.ensures.limits in record {
-  walking = starts z c.args.query.now (worker_steps c.args.seat.now) c.place-slot.result
-      (subst (λ (y : TableSize). c.place-slot.result ≡ start_of y.slots c.args.query.now.local c.args.query.now.peer) same c.place-slot.ensures.value)
+  walking = starts z c.args.sought.now (worker_steps c.args.seat.now) c.place-slot.result
+      (subst (λ (q : Query). c.place-slot.result ≡ start_of z.slots q.local q.peer) c.query-query.ensures
+      (subst (λ (y : TableSize). c.place-slot.result ≡ start_of y.slots c.query-query.result.now.local c.query-query.result.now.peer) same c.place-slot.ensures.value))
       (subst (λ (y : TableSize). c.place-slot.result < y.slots) same c.place-slot.ensures.range)
       (subst (λ (y : TableSize). 0 < y.slots) same limits.some_slot);
   seat = c.requires.same;
@@ -34,12 +35,12 @@ returns-in-Match-clause-walks c =
     let z : TableSize = size_of c.args.table.now in let same = c.size-slots.ensures.value in let l = c.loop-passed in let m = c.in-Match in
     let further : l.passed < z.slots = subst (λ (y : TableSize). l.passed < y.slots) same c.loop-passed-test.true in
     let limits : IsWithinLimits z = subst IsWithinLimits same c.size-slots.ensures.limits in
-    meets c.args.table.now l.seat c.look_at.new.seat c.args.query.now (worker_steps c.args.seat.now) l.slot l.passed limits (laws c.law_looks.ensures c.law_visits.ensures c.law_walks.ensures c.law_words.ensures) l.invariant.walking further
+    meets c.args.table.now l.seat c.look_at.new.seat c.args.sought.now (worker_steps c.args.seat.now) l.slot l.passed limits (laws c.law_looks.ensures c.law_visits.ensures c.law_walks.ensures c.law_words.ensures) l.invariant.walking further
     m.generation m.row m.key m.extra m.ensures (l.passed + 1) (omega arith)
 
 pub returns-in-Unused-clause-walks : goal.returns-in-Unused-clause-walks
 returns-in-Unused-clause-walks c =
-    let z : TableSize = size_of c.args.table.now in let same = c.size-slots.ensures.value in let l = c.loop-passed in let before : List Step = worker_steps c.args.seat.now in let q : Query = c.args.query.now in
+    let z : TableSize = size_of c.args.table.now in let same = c.size-slots.ensures.value in let l = c.loop-passed in let before : List Step = worker_steps c.args.seat.now in let q : Query = c.args.sought.now in
     let further : l.passed < z.slots = subst (λ (y : TableSize). l.passed < y.slots) same c.loop-passed-test.true in
     let limits : IsWithinLimits z = subst IsWithinLimits same c.size-slots.ensures.limits in
     let one : suc l.passed ≡ l.passed + 1 = omega arith in
@@ -49,7 +50,7 @@ returns-in-Unused-clause-walks c =
 
 pub loop-passed-preserved : goal.loop-passed-preserved
 loop-passed-preserved c =
-    let z : TableSize = size_of c.args.table.now in let same = c.size-slots.ensures.value in let l = c.loop-passed in let before : List Step = worker_steps c.args.seat.now in let q : Query = c.args.query.now in
+    let z : TableSize = size_of c.args.table.now in let same = c.size-slots.ensures.value in let l = c.loop-passed in let before : List Step = worker_steps c.args.seat.now in let q : Query = c.args.sought.now in
     let further : l.passed < z.slots = subst (λ (y : TableSize). l.passed < y.slots) same c.loop-passed-test.true in
     let limits : IsWithinLimits z = subst IsWithinLimits same c.size-slots.ensures.limits in
     let one : suc l.passed ≡ l.passed + 1 = omega arith in
@@ -69,5 +70,5 @@ returns-clause-walks c =
     let same : c.size-slots.result.slots ≡ z.slots = ap (λ (y : TableSize). y.slots) c.size-slots.ensures.value in
     let all : c.loop-passed.passed ≡ z.slots = let r = inv.range in let t = c.loop-passed-test.false in omega (arith, r, t, same) in
     let before : List Step = worker_steps c.args.seat.now in let p : ℕ = c.loop-passed.passed in
-    subst (λ (xs : List Step). FoundNone z before xs c.args.query.now p) (sym c.retire_announcement-2.ensures.step)
-    (passed_all z c.args.query.now before (worker_steps c.loop-passed.seat) c.loop-passed.slot p inv.walking all)
+    subst (λ (xs : List Step). FoundNone z before xs c.args.sought.now p) (sym c.retire_announcement-2.ensures.step)
+    (passed_all z c.args.sought.now before (worker_steps c.loop-passed.seat) c.loop-passed.slot p inv.walking all)
