@@ -579,7 +579,7 @@ fn two_workers_and_a_desk_serve_one_table(rt: HostRuntime) -> Result<(), Fail> {
     let mut script = Script::new(rt.alloc());
     script.give_often(7, 5000, &REQUEST)?;
     let mut port = script.port(&[], &[], &[])?;
-    for number in [0, 2, 4] {
+    for (number, next) in [(0, 1), (2, 3), (4, 5)] {
         let tally = stage.work(&mut port, 1, 100);
         let other = stage.work_beside(&mut port, 1, 100);
         assert_eq!(rt; (tally.sent, other.sent), (1, 1));
