@@ -1,16 +1,23 @@
 -- What a seat gains, what a log is told, and what a port's count rises by, call after call.
-use Rattle.std.proofs.Common.{◌≡◌, ◌⊎◌, inl, inr, ℕ, ◌+◌, ◌-◌, ◌^◌, ◌<◌, ◌≤◌, List, [], ◌∷◌, ◌++◌, Option, Some, None, refl, sym, ap, subst, ◌∙◌, append_assoc, take, length, arith}
+use Rattle.std.proofs.Common.{◌≡◌, ◌⊎◌, inl, inr, ℕ, ◌+◌, ◌-◌, ◌^◌, ◌<◌, ◌≤◌, List, [], ◌∷◌, ◌++◌, Option, Some, None, Result, Ok, refl, sym, ap, subst, ◌∙◌, append_assoc, take, length, arith}
 use Rattle.std.proofs.lemmas.List.{append-nil}
+use Rattle.std.proofs.Math.Seq.{take-append_seam}
 use Rattle.session_world.specs.declared.steps.Step.{Step}
 use Rattle.session_world.specs.Loads.{row_loads}
 use Rattle.session_rule.specs.declared.seats.Table.{Table}
 use Rattle.session_rule.specs.declared.seats.WorkerSeat.{WorkerSeat}
 use Rattle.session_rule.specs.Seats.{worker_steps}
+use Rattle.refl_types.specs.declared.types.Meta.{Meta}
 use Rattle.net_io.specs.Log.{Grows}
+use Rattle.port_io.specs.declared.outside.Failed.{Failed}
+use Rattle.net_io.specs.declared.port.Got.{Got}
+use Rattle.net_io.specs.declared.port.Got.TheVariants.{Datagram}
+use Rattle.net_io.specs.Port.{PortEntry, took, recv_entry}
 use Rattle.port_io.specs.Outside.{Rises}
 use Rattle.session_table.specs.Steps.{HasCome}
 use Rattle.session_table.specs.Knowing.{MaybeLoads}
 use Rattle.receive_worker.specs.Faults.{RisesBy}
+use Rattle.receive_worker.specs.Turn.{LastTook}
 
 pub grows_none : {E : Type 0} (l : Option (List E)) → Grows l l []
 grows_none None = tt
@@ -21,6 +28,20 @@ grows_then a b None x y p q = tt
 grows_then a None (Some n) x y p q = absurd q
 grows_then None (Some m) (Some n) x y p q = absurd p
 grows_then (Some l) (Some m) (Some n) x y p q = q ∙ ap (λ (r : List _). r ++ y) p ∙ append_assoc l x y
+
+-- a log that grew by a taking has it as its last entry
+grown_took : (a b : Option (List PortEntry)) (meta : Meta) (octets : List ℕ) → Grows a b (took meta octets ∷ []) → LastTook b meta octets
+grown_took a None meta octets h = tt
+grown_took None (Some l) meta octets h = absurd h
+grown_took (Some k) (Some l) meta octets h = (k, h)
+
+-- so has one that grew by a receive which gave a datagram
+pub received_took : (a b : Option (List PortEntry)) (buf : List ℕ) (r : Result Got Failed) → Grows a b (recv_entry buf r ∷ []) → (meta : Meta) → r ≡ Ok (Datagram meta) → LastTook b meta (take meta.len buf)
+received_took a b buf r grown meta e = grown_took a b meta (take meta.len buf) (subst (λ (x : Result Got Failed). Grows a b (recv_entry buf x ∷ [])) e grown)
+
+-- a buffer to whose front these octets were written, as many as it has
+pub whole_buffer : (n : ℕ) (octets rest : List ℕ) → n ≡ length octets → octets ≡ take n (octets ++ rest)
+whole_buffer n octets rest e = sym (ap (λ (k : ℕ). take k (octets ++ rest)) e ∙ take-append_seam octets rest)
 
 pub come_then : {t : Table} {a b c : WorkerSeat} {xs : List Step} → HasCome t a b (worker_steps b) → HasCome t b c xs → HasCome t a c (worker_steps c)
 come_then p q = record { steps = refl; number = q.number ∙ p.number; seat = q.seat; schedule = q.schedule }

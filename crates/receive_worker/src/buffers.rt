@@ -1,8 +1,10 @@
 //! The memory of a worker.
 
-ghost use Rattle.std.specs.Prelude.{◌≡◌, ◌≤◌, ◌<◌, ◌∷◌, [], length, IfOk, OnOk, OnErr};
+ghost use Rattle.std.specs.Prelude.{◌≡◌, ◌≤◌, ◌<◌, ◌∷◌, [], length, take, Ok, IfOk, OnOk, OnErr};
+ghost use Rattle.refl_types.specs.declared.types.Meta.{Meta};
 ghost use Rattle.port_io.specs.Outside.{Rises};
 ghost use Rattle.net_io.specs.Log.{Grows};
+ghost use Rattle.net_io.specs.declared.port.Got.TheVariants.{Datagram};
 ghost use Rattle.net_io.specs.Port.{Receives, recv_entry, datagram_len};
 
 use net_io::{DATAGRAM_ROOM, Got, Port};
@@ -33,6 +35,7 @@ fn room(alloc: Global) -> Result<Vec<u8>, Memory>
 
 impl Buffers {
     ghost use Rattle.receive_worker.specs.Buffers.{received, kept_rows};
+    ghost use Rattle.receive_worker.specs.Turn.{LastTook};
 
     /// Takes the memory: two buffers of 65,536 octets, and room for the configurations.
     pub fn make(alloc: Global) -> Result<Buffers, Memory> {
@@ -54,6 +57,7 @@ impl Buffers {
         ensures bound { P.bound port.new ≡ P.bound port.old }
         ensures coming { Receives (P.coming port.old) (P.coming port.new) (received self.new) result }
         ensures log { Grows (P.log port.old) (P.log port.new) (recv_entry (received self.new) result ∷ []) }
+        ensures took { (meta : Meta) → result ≡ Ok (Datagram meta) → LastTook (P.log port.new) meta (take meta.len (received self.new)) }
         ensures made { P.made port.new ≡ P.made port.old }
         ensures still { OnOk result (P.faults port.new ≡ P.faults port.old) }
         ensures cause { OnErr result (Rises (P.faults port.old) (P.faults port.new)) }

@@ -38,6 +38,7 @@ fn reply<P: Port>(
     requires room { length output.old ≡ 65536 }
     ensures replies { Replies session.now.key.now session.now.extra.now session.now.config.now number (arrived datagram.now) (P.log port.old) (P.log port.new) result }
     ensures bound { P.bound port.new ≡ P.bound port.old }
+    ensures coming { P.coming port.new ≡ P.coming port.old }
     ensures made { P.made port.new ≡ P.made port.old }
     ensures faults { RisesBy (failed_sends result) (P.faults port.old) (P.faults port.new) }
 {
@@ -95,6 +96,7 @@ pub(crate) fn answer<P: Port>(
     ensures read { AreRead known.new (worker_steps seat.new) }
     ensures turned { Turned table.now (arrived datagram.now) seat.old seat.new (P.log port.old) (P.log port.new) result }
     ensures bound { P.bound port.new ≡ P.bound port.old }
+    ensures coming { P.coming port.new ≡ P.coming port.old }
     ensures made { P.made port.new ≡ P.made port.old }
     ensures faults { RisesBy (failed_sends result) (P.faults port.old) (P.faults port.new) }
 {
@@ -151,6 +153,7 @@ pub fn turn<P: Port>(
     requires took { LastTook (P.log port.old) meta.now (take meta.now.len (received buffers.old)) }
     ensures turned { Turned table.now (arrived_at locals.now meta.now (take meta.now.len (received buffers.old))) seat.old seat.new (P.log port.old) (P.log port.new) result }
     ensures bound { P.bound port.new ≡ P.bound port.old }
+    ensures coming { P.coming port.new ≡ P.coming port.old }
     ensures made { P.made port.new ≡ P.made port.old }
     ensures faults { RisesBy (failed_sends result) (P.faults port.old) (P.faults port.new) }
 {
