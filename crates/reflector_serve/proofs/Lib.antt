@@ -1,0 +1,6 @@
+mod PhaseFacts
+mod SeatFacts
+mod SplitFacts
+mod JoinFacts
+mod PortFacts
+mod LiveFacts

@@ -1,0 +1,4 @@
+pub mod Ports
+pub mod Posts
+pub mod Phases
+pub mod Live
