@@ -5,6 +5,7 @@ use Rattle.refl_types.specs.declared.config.ConfigParts.{ConfigParts}
 use Rattle.config_rows.specs.Rows.{Rows, IsRow}
 use Rattle.session_world.specs.Answers.{Answer, opened}
 use Rattle.session_rule.specs.declared.seats.Table.{Table}
+use Rattle.session_rule.specs.Seats.{joined_parts}
 use Rattle.session_desk.specs.declared.session.Session.{Session}
 use Rattle.session_desk.specs.Book.{Book, steps_of, answers_of}
 use Rattle.session_desk.specs.Going.{StandsAt, DeskWent}
@@ -15,6 +16,7 @@ use Rattle.conf_text.specs.File.{File}
 pub record IsNewBook (t : Table) (f : File) (b : Book) : Type 0 where
   pub stands : StandsAt t b
   pub steps : steps_of b ≡ []
+  pub joined : joined_parts b.seat ≡ []
   pub rows : b.rows ≡ record { configs = []; limit = f.rows }
   pub live : b.live ≡ []
   pub reserved : b.reserved ≡ []

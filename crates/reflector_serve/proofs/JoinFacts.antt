@@ -6,7 +6,7 @@ use Rattle.session_rule.specs.declared.seats.Table.{Table}
 use Rattle.session_rule.specs.Seats.{IsWorkerOf, worker_number, worker_steps}
 use Rattle.session_desk.specs.Book.{Book, IsBookOf}
 use Rattle.session_desk.specs.Parting.{IsJoined}
-use Rattle.reflector_serve.specs.declared.posts.Post.{Post}
+use Rattle.reflector_serve.specs.declared.post.Post.{Post}
 use Rattle.reflector_serve.specs.Posts.{AreSeated, AreNumbered, lists_of}
 use Rattle.reflector_serve.specs.Phases.{Phase, KeepsAllElse}
 use Rattle.reflector_serve.proofs.PhaseFacts.{join_phase}

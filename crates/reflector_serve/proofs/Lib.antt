@@ -4,3 +4,9 @@ mod SplitFacts
 mod JoinFacts
 mod PortFacts
 mod LiveFacts
+mod HalfFacts
+mod QuietFacts
+mod RunFacts
+mod BeginFacts
+mod WideFacts
+mod WholeFacts

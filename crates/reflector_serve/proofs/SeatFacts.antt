@@ -3,7 +3,7 @@ use Rattle.std.proofs.Common.{◌≡◌, ℕ, suc, ◌+◌, List, [], ◌∷◌,
 use Rattle.session_world.specs.declared.steps.Step.{Step}
 use Rattle.session_rule.specs.declared.seats.Table.{Table}
 use Rattle.session_rule.specs.Seats.{IsWorkerOf, worker_number, worker_steps}
-use Rattle.reflector_serve.specs.declared.posts.Post.{Post}
+use Rattle.reflector_serve.specs.declared.post.Post.{Post}
 use Rattle.reflector_serve.specs.Posts.{AllSeated, AreSeated, AreNumbered, AreFresh, lists_of}
 
 front : {P : Type 0} (t : Table) (rs rs' : List (Post P)) → AllSeated t (rs ++ rs') → AllSeated t rs

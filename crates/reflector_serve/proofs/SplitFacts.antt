@@ -7,7 +7,7 @@ use Rattle.session_rule.specs.declared.seats.Seat.{Seat}
 use Rattle.session_rule.specs.Seats.{size_of, worker_number}
 use Rattle.session_desk.specs.Book.{Book, IsBookOf, steps_of}
 use Rattle.session_desk.specs.Parting.{HasSplit}
-use Rattle.reflector_serve.specs.declared.posts.Post.{Post}
+use Rattle.reflector_serve.specs.declared.post.Post.{Post}
 use Rattle.reflector_serve.specs.Posts.{AreSeated, AreNumbered, AreFresh}
 use Rattle.reflector_serve.specs.Phases.{Phase, KeepsAllElse}
 use Rattle.reflector_serve.proofs.PhaseFacts.{next_number, split_phase}

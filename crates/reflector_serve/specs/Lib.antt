@@ -1,4 +1,8 @@
 pub mod Ports
+pub mod Stand
 pub mod Posts
 pub mod Phases
 pub mod Live
+pub mod Served
+pub mod Opening
+pub mod Running

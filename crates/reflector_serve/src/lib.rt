@@ -2,6 +2,13 @@
 #![tactic(auto)]
 
 mod ports;
+mod post;
 mod posts;
+mod report;
 mod seats;
+mod whole;
+mod serving;
 mod standin;
+
+pub use report::{Report, ServeFault};
+pub use whole::serve;

@@ -7,7 +7,7 @@ ghost use Rattle.session_desk.specs.Book.{IsBookOf};
 ghost use Rattle.reflector_serve.specs.Posts.{AreSeated, AreNumbered, AreFresh, lists_of};
 ghost use Rattle.reflector_serve.specs.Phases.{Phase, KeepsAllElse};
 
-use crate::posts::Post;
+use crate::post::Post;
 use crate::standin::{Buffers, Tally};
 use session_desk::DeskBook;
 use session_rule::Table;
@@ -53,7 +53,7 @@ pub(crate) fn split_all<P>(
         posts.push_reserved(Post {
             seat,
             buffers,
-            tally: Tally { taken: 0 },
+            tally: Tally::new(),
             port: PhantomData,
         });
     }
