@@ -1,0 +1,4 @@
+pub mod GrowthFacts
+pub mod TurnFacts
+pub mod AccountFacts
+pub mod RoundFacts

@@ -1,0 +1,41 @@
+use Rattle.std.proofs.Common.{◌≡◌, ℕ, ◌+◌, ◌-◌, ◌<◌, ◌≤◌, true, false, List, [], ◌∷◌, ◌++◌, Option, Some, None, take, refl, sym, ap, subst, ◌∙◌, arith}
+use Rattle.session_rule.specs.Seats.{worker_steps}
+use Rattle.net_io.specs.declared.port.Got.{Got}
+use Rattle.net_io.specs.Log.{Grows}
+use Rattle.net_io.specs.Port.{got_entry}
+use Rattle.session_table.specs.Knowing.{AreRead, Places}
+use Rattle.receive_worker.specs.Buffers.{received, kept_rows}
+use Rattle.receive_worker.specs.Turn.{Turned}
+use Rattle.receive_worker.specs.Work.{idle, over, failed, arrived_at}
+use Rattle.receive_worker.proofs.RoundFacts.{turned_round}
+use Rattle.receive_worker.proofs.working.round.Goals as goal
+
+pub returns-in-Err-clause-read : goal.returns-in-Err-clause-read
+returns-in-Err-clause-read g c = subst (λ (rows : Places). AreRead rows (worker_steps c.args.seat.now)) (sym c.recv.ensures.kept) c.requires.read
+
+pub returns-in-Err-clause-round : goal.returns-in-Err-clause-round
+returns-in-Err-clause-round g c = record { round = failed; kind = refl; works = record { gained = []; steps = refl; answers = refl; written = c.in-Err.ensures.log; turned = λ config reads. (tt, tt) } }
+
+pub returns-in-Ok-Nothing-clause-read : goal.returns-in-Ok-Nothing-clause-read
+returns-in-Ok-Nothing-clause-read g c = subst (λ (rows : Places). AreRead rows (worker_steps c.args.seat.now)) (sym c.recv.ensures.kept) c.requires.read
+
+pub returns-in-Ok-Nothing-clause-round : goal.returns-in-Ok-Nothing-clause-round
+returns-in-Ok-Nothing-clause-round g c = record { round = idle; kind = refl; works = record { gained = []; steps = refl; answers = refl; written = subst (λ (got : Got). Grows (g.P.Port.log c.args.port.now) (g.P.Port.log c.recv.new.port) (got_entry (received c.recv.new.self) got ∷ [])) c.in-Ok-Nothing.field-0-is c.in-Ok-Nothing.ensures.log; turned = λ config reads. (tt, tt) } }
+
+pub returns-in-Ok-End-clause-read : goal.returns-in-Ok-End-clause-read
+returns-in-Ok-End-clause-read g c = subst (λ (rows : Places). AreRead rows (worker_steps c.args.seat.now)) (sym c.recv.ensures.kept) c.requires.read
+
+pub returns-in-Ok-End-clause-round : goal.returns-in-Ok-End-clause-round
+returns-in-Ok-End-clause-round g c = record { round = over; kind = refl; works = record { gained = []; steps = refl; answers = refl; written = subst (λ (got : Got). Grows (g.P.Port.log c.args.port.now) (g.P.Port.log c.recv.new.port) (got_entry (received c.recv.new.self) got ∷ [])) c.in-Ok-End.field-0-is c.in-Ok-End.ensures.log; turned = λ config reads. (tt, tt) } }
+
+pub answer-outcome-requires-clause-read : goal.answer-outcome-requires-clause-read
+answer-outcome-requires-clause-read g c = subst (λ (rows : Places). AreRead rows (worker_steps c.args.seat.now)) (sym c.recv.ensures.kept) c.requires.read
+
+pub returns-in-Ok-Datagram-clause-round : goal.returns-in-Ok-Datagram-clause-round
+returns-in-Ok-Datagram-clause-round g c =
+    let meta = c.in-Ok-Datagram.meta in
+    let taken = subst (λ (got : Got). Grows (g.P.Port.log c.args.port.now) (g.P.Port.log c.recv.new.port) (got_entry (received c.recv.new.self) got ∷ [])) c.in-Ok-Datagram.field-0-is c.in-Ok-Datagram.ensures.log in
+    turned_round c.args.table.now c.args.locals.now meta (take meta.len (received c.recv.new.self)) c.args.seat.now c.answer-outcome.new.seat (g.P.Port.log c.args.port.now) (g.P.Port.log c.recv.new.port)
+    (g.P.Port.log c.answer-outcome.new.port) c.answer-outcome.result taken
+    (subst (λ (all : List ℕ). Turned c.args.table.now (arrived_at c.args.locals.now meta (take meta.len all)) c.args.seat.now c.answer-outcome.new.seat (g.P.Port.log c.recv.new.port) (g.P.Port.log c.answer-outcome.new.port) c.answer-outcome.result)
+    c.deref.ensures.value c.answer-outcome.ensures.turned)

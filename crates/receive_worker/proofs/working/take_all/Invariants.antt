@@ -1,0 +1,27 @@
+use Rattle.std.proofs.Common.{◌+◌, ◌-◌, ◌≡◌, ◌<◌, ◌≤◌}
+use Rattle.session_rule.specs.Seats.{worker_steps}
+use Rattle.session_table.specs.Knowing.{AreRead}
+use Rattle.session_table.specs.Steps.{HasCome}
+use Rattle.session_table.specs.Holding.{HoldsNothing}
+use Rattle.receive_worker.specs.Buffers.{kept_rows}
+use Rattle.receive_worker.specs.Faults.{RisesBy}
+use Rattle.receive_worker.specs.Tally.{AddsUp}
+use Rattle.receive_worker.proofs.RoundFacts.{Going}
+use Rattle.receive_worker.proofs.working.take_all.Given as goal
+
+abbrev pub invariant-rounds : goal.invariant-rounds
+invariant-rounds g l = record {
+  seat : HasCome l.table l.fn.seat l.seat (worker_steps l.seat);
+  nothing : HoldsNothing (worker_steps l.seat);
+  read : AreRead (kept_rows l.buffers) (worker_steps l.seat);
+  bound : g.P.Port.bound l.port ≡ g.P.Port.bound l.fn.port;
+  made : g.P.Port.made l.port ≡ g.P.Port.made l.fn.port;
+  faults : RisesBy (l.tally.recv_fault + l.tally.send_fault) (g.P.Port.faults l.fn.port) (g.P.Port.faults l.port);
+  going : Going l.table l.locals l.limit l.turns l.fn.seat l.seat (g.P.Port.log l.fn.port) (g.P.Port.log l.port) l.tally l.calls l.failed;
+  room : AddsUp l.calls l.tally;
+  range : l.calls < l.turns;
+  short : l.failed ≤ l.calls;
+}
+
+abbrev pub decreases-rounds : goal.decreases-rounds
+decreases-rounds g l = l.turns - l.calls
