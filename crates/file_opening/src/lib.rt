@@ -1,14 +1,39 @@
 //! The sessions of the file, opened in the desk's book before anybody is served.
 #![tactic(auto)]
 
-ghost use Rattle.std.specs.Prelude.{◌≡◌, ◌+◌, ◌<◌, length};
-ghost use Rattle.file_opening.specs.Opened.{IsNewBook, HasOpened};
+ghost use Rattle.std.specs.Prelude.{◌≡◌, ◌+◌, ◌<◌, length, IfOk};
+ghost use Rattle.session_rule.specs.Seats.{size_of};
+ghost use Rattle.file_opening.specs.Opened.{size_in, IsNewBook, HasOpened};
 ghost use Rattle.file_opening.specs.OpenedFirst.{HasOpenedFirst};
 ghost use Rattle.session_desk.specs.Going.{DeskWent};
 
 use conf_text::Conf;
+use refl_types::Memory;
 use session_desk::DeskBook;
-use session_rule::Table;
+use session_rule::{Table, TableSize, open_table};
+use std::alloc::Global;
+
+#[cfg(test)]
+mod tests;
+
+/// A table of the file's size, and its book.
+pub fn new_table(alloc: Global, conf: &Conf) -> Result<(Table, DeskBook), Memory>
+    ensures size { IfOk result (λ r. size_of r.0 ≡ size_in conf.now) }
+    ensures new { IfOk result (λ r. IsNewBook r.0 conf.now r.1) }
+{
+    let size = TableSize {
+        slots: conf.slots(),
+        rows: conf.rows(),
+        workers: conf.workers(),
+    };
+    let Ok((table, seat)) = open_table(alloc, size) else {
+        return Err(Memory);
+    };
+    let Ok(book) = DeskBook::make(alloc, seat, size) else {
+        return Err(Memory);
+    };
+    Ok((table, book))
+}
 
 /// Opens the session of that index of the file, where those before it are open.
 fn open_session(table: &Table, book: &mut DeskBook, conf: &Conf, index: usize, moment: u64)

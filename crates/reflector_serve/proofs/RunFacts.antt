@@ -15,10 +15,12 @@ use Rattle.session_desk.specs.Book.{Book, IsBookOf, steps_of, answers_of}
 use Rattle.session_desk.specs.Fits.{BookFits}
 use Rattle.conf_text.specs.File.{File}
 use Rattle.reflector_serve.specs.declared.post.Post.{Post}
-use Rattle.reflector_serve.specs.declared.standin.Tally.{Tally}
-use Rattle.reflector_serve.specs.declared.standin.DeskRoom.{DeskRoom}
+use Rattle.receive_worker.specs.declared.tally.Tally.{Tally}
+use Rattle.reflector_serve.specs.Rooms.{Room}
 use Rattle.reflector_serve.specs.declared.report.Report.{Report}
-use Rattle.reflector_serve.specs.Stand.{RisesBy, HasWorked, Accounts}
+use Rattle.receive_worker.specs.Faults.{RisesBy}
+use Rattle.receive_worker.specs.Accounts.{Accounts}
+use Rattle.receive_worker.specs.Work.{HasWorked}
 use Rattle.reflector_serve.specs.Ports.{PortView}
 use Rattle.reflector_serve.specs.Posts.{AllSeated, AreSeated, AreNumbered, AreFresh, lists_of, WorkedAt, AllWorked}
 use Rattle.reflector_serve.specs.Phases.{Phase, KeepsAllElse}
@@ -89,7 +91,7 @@ lists_length (r ∷ rs) = ap suc (lists_length rs)
 
 -- ---- all
 
-module _ {P S D T : Type 0} (v : PortView P S) (w : DeskView D T) (t : Table) (f : File) (room : DeskRoom) (os qs : List P) (d e : D) (rs mid : List (Post P)) (b at_end c : Book) (report : Report) where
+module _ {P S D T : Type 0} (v : PortView P S) (w : DeskView D T) (t : Table) (f : File) (room : Room) (os qs : List P) (d e : D) (rs mid : List (Post P)) (b at_end c : Book) (report : Report) where
 
   pub has_served : JoinedHistory → IsWithinLimits (size_of t) → BookFits c → AreFresh rs → length os ≡ length rs → AllWorked v t f os qs rs mid → (ran : DeskRan t w f.turns room d e b at_end report.desk)
       → ((first base : List Step) → Phase t first base at_end (length mid) [] → Phase t first base c 0 (lists_of mid)) → KeepsAllElse at_end c

@@ -1,6 +1,8 @@
 -- Seats of a list of posts that is cut in two.
 use Rattle.std.proofs.Common.{◌≡◌, ℕ, suc, ◌+◌, List, [], ◌∷◌, ◌++◌, length, sym, refl, ap, ◌∙◌, subst, arith}
 use Rattle.session_world.specs.declared.steps.Step.{Step}
+use Rattle.session_world.specs.Worker.{holds}
+use Rattle.session_table.specs.Holding.{HoldsNothing}
 use Rattle.session_rule.specs.declared.seats.Table.{Table}
 use Rattle.session_rule.specs.Seats.{IsWorkerOf, worker_number, worker_steps}
 use Rattle.reflector_serve.specs.declared.post.Post.{Post}
@@ -47,3 +49,8 @@ number_last w (x ∷ left) r a = (let e = number_last (suc w) left r a.1 in omeg
 pub lists_last : {P : Type 0} (left : List (Post P)) (r : Post P) → lists_of (left ++ r ∷ []) ≡ lists_of left ++ worker_steps r.seat ∷ []
 lists_last [] r = refl
 lists_last (x ∷ left) r = ap (λ (xs : List (List Step)). worker_steps x.seat ∷ xs) (lists_last left r)
+
+-- ---- a seat that has made no step
+
+pub holds_nothing : (xs : List Step) → xs ≡ [] → HoldsNothing xs
+holds_nothing xs e = λ i. ap (λ (ys : List Step). holds ys i) e

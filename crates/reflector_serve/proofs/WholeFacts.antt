@@ -1,6 +1,5 @@
 -- All parts of a run.
 use Rattle.std.proofs.Common.{◌≡◌, ℕ, List, [], ◌∷◌, ◌++◌, length, map, Option, sym, refl, ap, ◌∙◌, subst, arith}
-use Rattle.config_rows.specs.Rows.{Rows}
 use Rattle.net_io.specs.Log.{Grows}
 use Rattle.net_io.specs.Port.{read}
 use Rattle.net_io.specs.Desk.{opened}
@@ -17,40 +16,17 @@ use Rattle.session_desk.specs.Parting.{first_book}
 use Rattle.session_desk.specs.Fits.{BookFits}
 use Rattle.conf_text.specs.File.{File}
 use Rattle.file_opening.specs.Opened.{IsNewBook, HasItsRow, HasOpened}
-use Rattle.reflector_serve.specs.declared.standin.DeskRoom.{DeskRoom}
+use Rattle.reflector_serve.specs.Rooms.{Room, first_room}
 use Rattle.reflector_serve.specs.declared.report.Report.{Report}
-use Rattle.reflector_serve.specs.Stand.{RisesBy, IsRoomOf}
+use Rattle.reflector_serve.specs.Stand.{AreFaultsTold, HasRun}
 use Rattle.reflector_serve.specs.Ports.{PortView, IsBound, Each, FirstTold}
 use Rattle.reflector_serve.specs.Phases.{KeepsAllElse}
-use Rattle.reflector_serve.specs.Served.{DeskView, Served, size_in}
+use Rattle.file_opening.specs.Opened.{size_in}
+use Rattle.reflector_serve.specs.Served.{DeskView, Served}
 use Rattle.reflector_serve.specs.Running.{HasServed}
 use Rattle.reflector_serve.proofs.BeginFacts.{begins}
 use Rattle.reflector_serve.proofs.QuietFacts.{all_opening}
 use Rattle.reflector_serve.proofs.WideFacts.{wide_served}
-
--- ---- a new table and its book
-
-pub new_book : (t : Table) (s : Seat) (f : File) (b : Book) → IsNewTable (size_in f) t s → b ≡ first_book s (size_in f) → IsBookOf t b → IsNewBook t f b
-new_book t s f b new is book = record {
-  stands = record {
-    book = book;
-    schedule = subst (λ (z : TableSize). IsDeskOfOneSchedule z (steps_of b) (joined_parts b.seat)) (sym new.size)
-        (subst (λ (ds : List Step). IsDeskOfOneSchedule (size_in f) ds (joined_parts b.seat)) (sym steps)
-        (subst (λ (ps : List Part). IsDeskOfOneSchedule (size_in f) [] ps) (sym parts) new.schedule));
-  };
-  steps = steps;
-  joined = parts;
-  rows = ap (λ (x : Book). x.rows) is;
-  live = ap (λ (x : Book). x.live) is;
-  reserved = ap (λ (x : Book). x.reserved) is;
-  keys = ap (λ (x : Book). x.keys) is;
-  slots = ap (λ (x : Book). x.size.slots) is;
-}
-  where
-    steps : steps_of b ≡ []
-    steps = ap steps_of is ∙ new.steps
-    parts : joined_parts b.seat ≡ []
-    parts = ap (λ (x : Book). joined_parts x.seat) is ∙ new.joined
 
 -- ---- the whole
 
@@ -60,9 +36,9 @@ pub record IsReady {D S : Type 0} (v : DeskView D S) (f : File) (d e : D) : Type
   pub made : v.made e ≡ v.made d
   pub still : v.faults e ≡ v.faults d
 
-module _ {P S D T : Type 0} (v : PortView P S) (w : DeskView D T) (t : Table) (f : File) (room : DeskRoom) (moment : ℕ) (ps ts os qs : List P) (d r e : D) (before b split c : Book) (report : Report) where
+module _ {P S D T : Type 0} (v : PortView P S) (w : DeskView D T) (t : Table) (f : File) (room : Room) (moment : ℕ) (ps ts os qs : List P) (d r e : D) (before b split c : Book) (report : Report) where
 
-  pub whole_served : size_of t ≡ size_in f → IsNewBook t f before → HasOpened t f moment before b → BookFits b → RowsStay → KeepsAllElse b split → IsRoomOf f room
+  pub whole_served : size_of t ≡ size_in f → IsNewBook t f before → HasOpened t f moment before b → BookFits b → RowsStay → KeepsAllElse b split → room ≡ first_room f
       → FirstTold v moment ps ts → Each (IsBound v f.locals) ts os → length ps ≡ f.workers → IsReady w f d r
       → HasServed v w t f room (steps_of b) os qs r e split c report → Served v w f ps qs d e report
   whole_served size new h fits stay kept is_room told each many ready hs = record {
@@ -79,9 +55,9 @@ module _ {P S D T : Type 0} (v : PortView P S) (w : DeskView D T) (t : Table) (f
     desk = record {
       ready = r;
       opening = ready.log;
-      ran = hs.desk.ran f is_room (subst (λ (rows : Rows). HasItsRow rows f.twamp) (sym (ap (λ (x : Book). x.rows) kept)) h.twamp);
+      ran = subst (λ (x : Room). HasRun t x.setting f.turns x.state (w.log r) (w.log e) split hs.at_end report.desk) is_room hs.desk.ran;
       made = hs.desk.made ∙ ready.made;
-      faults = subst (λ (n : ℕ). RisesBy report.desk.faults n (w.faults e)) ready.still hs.desk.faults;
+      faults = subst (λ (n : ℕ). AreFaultsTold n (w.faults e) report.desk.faults) ready.still hs.desk.faults;
     };
     joined = c;
     joins = hs.joins;

@@ -10,7 +10,7 @@ use Rattle.session_rule.specs.declared.seats.Table.{Table}
 use Rattle.session_rule.specs.Seats.{worker_steps}
 use Rattle.conf_text.specs.File.{File}
 use Rattle.reflector_serve.specs.declared.post.Post.{Post}
-use Rattle.reflector_serve.specs.declared.standin.Tally.{Tally}
+use Rattle.receive_worker.specs.declared.tally.Tally.{Tally}
 use Rattle.reflector_serve.specs.Ports.{PortView, IsBound, Each, OneFails, FirstTold}
 use Rattle.reflector_serve.specs.Posts.{AllSeated, AreSeated, AreFresh, AllReady, AreReady}
 use Rattle.reflector_serve.specs.Served.{IsQuiet, AllPorts, AreQuiet, AllServed}
@@ -25,7 +25,9 @@ wide_served v t f config told (p ∷ ps) (q ∷ qs) rest (xs ∷ lists) (y ∷ y
 wide_served v t f config told [] qs rest (xs ∷ lists) (y ∷ ys) a = absurd a
 wide_served v t f config told (p ∷ ps) [] rest (xs ∷ lists) (y ∷ ys) a = absurd a
 wide_served v t f config told ps qs rest [] (y ∷ ys) a = absurd a
-wide_served v t f config told ps qs rest (xs ∷ lists) [] a = absurd a
+wide_served v t f config told [] qs rest (xs ∷ lists) [] a = absurd a
+wide_served v t f config told (p ∷ ps) [] rest (xs ∷ lists) [] a = absurd a
+wide_served v t f config told (p ∷ ps) (q ∷ qs) rest (xs ∷ lists) [] a = absurd a
 
 quiet_self : {P S : Type 0} (v : PortView P S) (rest : List P) → AllPorts (IsQuiet v []) (IsQuiet v []) rest rest
 quiet_self v [] = refl

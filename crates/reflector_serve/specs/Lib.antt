@@ -1,4 +1,5 @@
 pub mod Ports
+pub mod Rooms
 pub mod Stand
 pub mod Posts
 pub mod Phases

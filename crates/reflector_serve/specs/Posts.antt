@@ -5,7 +5,9 @@ use Rattle.session_world.specs.declared.steps.Step.{Step}
 use Rattle.session_rule.specs.declared.seats.Table.{Table}
 use Rattle.session_rule.specs.Seats.{size_of, IsWorkerOf, worker_number, worker_steps}
 use Rattle.conf_text.specs.File.{File}
-use Rattle.reflector_serve.specs.Stand.{Worked, Accounts, RisesBy}
+use Rattle.receive_worker.specs.Faults.{RisesBy}
+use Rattle.receive_worker.specs.Accounts.{Accounts}
+use Rattle.receive_worker.specs.Work.{Worked}
 use Rattle.reflector_serve.specs.Ports.{PortView}
 use Rattle.reflector_serve.specs.declared.post.Post.{Post}
 

@@ -9,8 +9,8 @@ use Rattle.session_rule.specs.Seats.{size_of, joined_parts}
 use Rattle.session_desk.specs.Book.{Book, steps_of, answers_of}
 use Rattle.session_desk.specs.Going.{DeskWent}
 use Rattle.conf_text.specs.File.{File}
-use Rattle.file_opening.specs.Opened.{HasItsRow}
-use Rattle.reflector_serve.specs.Stand.{RisesBy, HasRun, IsRoomOf, setting_of, first_state}
+use Rattle.reflector_serve.specs.Rooms.{Room}
+use Rattle.reflector_serve.specs.Stand.{AreFaultsTold, HasRun}
 use Rattle.reflector_serve.specs.Ports.{PortView}
 use Rattle.reflector_serve.specs.Phases.{KeepsAllElse}
 use Rattle.reflector_serve.specs.Live.{AreBound}
@@ -18,17 +18,16 @@ use Rattle.reflector_serve.specs.Served.{DeskView, AllPorts, AllServed}
 use Rattle.reflector_serve.specs.Opening.{IsOpening}
 use Rattle.reflector_serve.specs.declared.report.Report.{Report}
 use Rattle.reflector_serve.specs.declared.standin.DeskTally.{DeskTally}
-use Rattle.reflector_serve.specs.declared.standin.DeskRoom.{DeskRoom}
 
-pub record DeskRan {D S : Type 0} (t : Table) (v : DeskView D S) (turns : ℕ) (room : DeskRoom) (d e : D) (b c : Book) (tally : DeskTally) : Type 0 where
+pub record DeskRan {D S : Type 0} (t : Table) (v : DeskView D S) (turns : ℕ) (room : Room) (d e : D) (b c : Book) (tally : DeskTally) : Type 0 where
   pub went : DeskWent t b c
-  pub ran : (f : File) → IsRoomOf f room → HasItsRow b.rows f.twamp → HasRun t (setting_of f) turns (first_state f) (v.log d) (v.log e) b c tally
+  pub ran : HasRun t room.setting turns room.state (v.log d) (v.log e) b c tally
   pub made : v.made e ≡ v.made d
-  pub faults : RisesBy tally.faults (v.faults d) (v.faults e)
+  pub faults : AreFaultsTold (v.faults d) (v.faults e) tally.faults
 
 -- The workers and the desk ran from the book b, which had gone on from the list `first`, and all were joined. What the opening had
 -- left of the ports is told apart
-pub record HasServed {P S D T : Type 0} (v : PortView P S) (w : DeskView D T) (t : Table) (f : File) (room : DeskRoom) (first : List Step) (os qs : List P) (d e : D) (b joined : Book) (report : Report) : Type 0 where
+pub record HasServed {P S D T : Type 0} (v : PortView P S) (w : DeskView D T) (t : Table) (f : File) (room : Room) (first : List Step) (os qs : List P) (d e : D) (b joined : Book) (report : Report) : Type 0 where
   pub at_end : Book
   pub desk : DeskRan t w f.turns room d e b at_end report.desk
   pub joins : KeepsAllElse at_end joined

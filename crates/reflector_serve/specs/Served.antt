@@ -7,7 +7,6 @@ use Rattle.net_io.specs.Port.{PortEntry, read}
 use Rattle.net_io.specs.Desk.{DeskEntry, opened, open_failed}
 use Rattle.port_io.specs.Outside.{Rises}
 use Rattle.session_world.specs.declared.steps.Step.{Step}
-use Rattle.session_world.specs.declared.steps.TableSize.{TableSize}
 use Rattle.session_world.specs.Desk.{config_at}
 use Rattle.session_world.specs.Answers.{opened as opened_by}
 use Rattle.session_world.specs.History.{Event}
@@ -17,18 +16,17 @@ use Rattle.session_rule.specs.Seats.{size_of, joined_parts}
 use Rattle.session_desk.specs.Book.{Book, steps_of, answers_of}
 use Rattle.conf_text.specs.declared.sessions.Provided.{Provided}
 use Rattle.conf_text.specs.File.{File}
-use Rattle.file_opening.specs.Opened.{IsNewBook, HasOpened}
-use Rattle.reflector_serve.specs.Stand.{Round, HasWorked, Accounts, RisesBy, HasRun, setting_of, first_state}
+use Rattle.file_opening.specs.Opened.{size_in, IsNewBook, HasOpened}
+use Rattle.receive_worker.specs.declared.tally.Tally.{Tally}
+use Rattle.receive_worker.specs.Faults.{RisesBy}
+use Rattle.receive_worker.specs.Accounts.{Accounts}
+use Rattle.receive_worker.specs.Work.{Round, HasWorked}
+use Rattle.reflector_serve.specs.Stand.{AreFaultsTold, HasRun, setting_of, first_state}
 use Rattle.reflector_serve.specs.Ports.{PortView}
 use Rattle.reflector_serve.specs.Phases.{KeepsAllElse}
 use Rattle.reflector_serve.specs.Live.{AreBound}
-use Rattle.reflector_serve.specs.declared.standin.Tally.{Tally}
 use Rattle.reflector_serve.specs.declared.standin.DeskTally.{DeskTally}
 use Rattle.reflector_serve.specs.declared.report.Report.{Report}
-
--- the size of the file's table
-abbrev pub size_in : File → TableSize
-size_in f = record { slots = f.slots; rows = f.rows; workers = f.workers }
 
 -- the opening of a session of the file
 abbrev pub opening_event : Provided → Event ConfigParts
@@ -97,7 +95,7 @@ pub record IsRun {D S : Type 0} (v : DeskView D S) (t : Table) (f : File) (d e :
   pub opening : Grows (v.log d) (v.log ready) (opened f.control f.operator ∷ [])
   pub ran : HasRun t (setting_of f) f.turns (first_state f) (v.log ready) (v.log e) b c tally
   pub made : v.made e ≡ v.made d
-  pub faults : RisesBy tally.faults (v.faults d) (v.faults e)
+  pub faults : AreFaultsTold (v.faults d) (v.faults e) tally.faults
 
 -- ---- the whole
 

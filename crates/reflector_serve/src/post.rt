@@ -1,6 +1,6 @@
 //! A worker's post.
 
-use crate::standin::{Buffers, Tally};
+use receive_worker::{Buffers, Tally, WorkEnd};
 use session_rule::WorkerSeat;
 use std::marker::PhantomData;
 
@@ -13,3 +13,17 @@ pub struct Post<P> {
     pub tally: Tally,
     pub port: PhantomData<P>,
 }
+
+/// The tally of a worker that hasn't begun.
+pub(crate) const NO_TALLY: Tally = Tally {
+    taken: 0,
+    sent: 0,
+    no_session: 0,
+    short: 0,
+    bad_hmac: 0,
+    changed: 0,
+    no_reply: 0,
+    send_fault: 0,
+    recv_fault: 0,
+    end: WorkEnd::Budget,
+};

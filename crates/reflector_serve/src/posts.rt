@@ -7,12 +7,13 @@ ghost use Rattle.reflector_serve.specs.Ports.{port_view};
 ghost use Rattle.reflector_serve.specs.Posts.{AreReady, WorkedAt, AllWorked};
 
 use crate::post::Post;
-use crate::standin::work;
 use conf_text::Conf;
 use net_io::Port;
+use receive_worker::work;
 use session_rule::Table;
 use std::thread::{Threads, join_mut};
 
+#[tactic(auto, using(crate::proofs::SeatFacts::holds_nothing))]
 /// Has a worker work at its port.
 fn work_at<P: Port>(table: &Table, conf: &Conf, port: &mut P, post: &mut Post<P>)
     requires bound { P.bound port.old ≡ conf.now.locals }

@@ -1,6 +1,7 @@
 //! What is told of a run, or why there was none.
 
-use crate::standin::{DeskTally, Tally};
+use crate::standin::DeskTally;
+use receive_worker::Tally;
 
 /// What all workers and the desk did, and how many sessions were live at the end.
 #[derive(Drop)]

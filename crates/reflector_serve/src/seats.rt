@@ -7,8 +7,8 @@ ghost use Rattle.session_desk.specs.Book.{IsBookOf};
 ghost use Rattle.reflector_serve.specs.Posts.{AreSeated, AreNumbered, AreFresh, lists_of};
 ghost use Rattle.reflector_serve.specs.Phases.{Phase, KeepsAllElse};
 
-use crate::post::Post;
-use crate::standin::{Buffers, Tally};
+use crate::post::{NO_TALLY, Post};
+use receive_worker::Buffers;
 use session_desk::DeskBook;
 use session_rule::Table;
 use std::marker::PhantomData;
@@ -53,7 +53,7 @@ pub(crate) fn split_all<P>(
         posts.push_reserved(Post {
             seat,
             buffers,
-            tally: Tally::new(),
+            tally: NO_TALLY,
             port: PhantomData,
         });
     }

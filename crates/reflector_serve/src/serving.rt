@@ -3,9 +3,7 @@
 ghost use Rattle.std.specs.Prelude.{◌≡◌, ℕ, ◌≤◌, List, [], length, map, vec_len, vec_capacity, IsTrue};
 ghost use Rattle.std.specs.Thread.{IsSync, IsSend};
 ghost use Rattle.session_world.specs.declared.steps.Step.{Step};
-ghost use Rattle.session_desk.specs.Book.{Book};
-ghost use Rattle.session_desk.specs.Going.{DeskWent, StandsAt};
-ghost use Rattle.reflector_serve.specs.Stand.{IsRoomOf};
+ghost use Rattle.session_desk.specs.Book.{IsBookOf};
 ghost use Rattle.reflector_serve.specs.Ports.{port_view};
 ghost use Rattle.reflector_serve.specs.Posts.{AreReady, AllWorked, AreSeated, AreNumbered, AreFresh};
 ghost use Rattle.reflector_serve.specs.Running.{DeskRan, HasServed};
@@ -16,9 +14,10 @@ use crate::post::Post;
 use crate::posts::work_all;
 use crate::report::Report;
 use crate::seats::join_all;
-use crate::standin::{DeskRoom, DeskTally, Tally, run_desk};
+use crate::standin::{DeskRoom, DeskTally, run_desk};
 use conf_text::Conf;
 use net_io::{Desk, Port};
+use receive_worker::Tally;
 use session_desk::DeskBook;
 use session_rule::Table;
 use session_world::law_joined_history;
@@ -32,7 +31,7 @@ fn run_at<D: Desk>(
     room: &mut DeskRoom,
     desk: &mut D,
 ) -> DeskTally
-    requires book { StandsAt table.now book.old }
+    requires book { IsBookOf table.now book.old }
     requires open { IsTrue (D.is_open desk.old) }
     ensures { DeskRan table.now (desk_view D.log D.coming D.made D.faults) conf.now.turns room.old desk.old desk.new book.old book.new result }
 {
@@ -52,7 +51,7 @@ pub(crate) fn run_all<R: Threads + Sync, P: Port + Send, D: Desk>(
 ) -> DeskTally
     requires enough { length posts.old ≤ length ports.old }
     requires ready { AreReady (port_view P.log P.coming P.bound P.made P.faults) table.now conf.now.locals ports.old posts.old }
-    requires book { StandsAt table.now book.old }
+    requires book { IsBookOf table.now book.old }
     requires open { IsTrue (D.is_open desk.old) }
     ensures workers { AllWorked (port_view P.log P.coming P.bound P.made P.faults) table.now conf.now ports.old ports.new posts.old posts.new }
     ensures desk { DeskRan table.now (desk_view D.log D.coming D.made D.faults) conf.now.turns room.old desk.old desk.new book.old book.new result }
@@ -64,7 +63,7 @@ pub(crate) fn run_all<R: Threads + Sync, P: Port + Send, D: Desk>(
             ensures { AllWorked (port_view P.log P.coming P.bound P.made P.faults) table.entry.now conf.entry.now ports.entry.now ports.exit.now posts.entry.now posts.exit.now }
         { work_all(rt, table, conf, ports, posts) },
         &mut ||
-            requires { StandsAt table.now book.now × IsTrue (D.is_open desk.now) }
+            requires { IsBookOf table.now book.now × IsTrue (D.is_open desk.now) }
             ensures { DeskRan table.entry.now (desk_view D.log D.coming D.made D.faults) conf.entry.now.turns room.entry.now desk.entry.now desk.exit.now book.entry.now book.exit.now result }
         { run_at(table, conf, book, room, desk) },
     );
@@ -99,7 +98,7 @@ pub(crate) fn serve_split<R: Threads + Sync, P: Port + Send, D: Desk>(
     requires seats { AreSeated table.now posts.items }
     requires numbers { AreNumbered 1 posts.items }
     requires fresh { AreFresh posts.items }
-    requires book { StandsAt table.now book.old }
+    requires book { IsBookOf table.now book.old }
     requires open { IsTrue (D.is_open desk.old) }
     requires empty { tallies.items ≡ [] }
     requires space { vec_len posts ≤ vec_capacity tallies }

@@ -1,45 +1,23 @@
 //! The call that opens everything, serves and joins.
 
 ghost use Rattle.std.specs.Prelude.{◌≡◌, ℕ, ◌<◌, ◌≤◌, [], Err, length, vec_len, vec_capacity, IfOk};
-ghost use Rattle.session_rule.specs.Seats.{size_of};
-ghost use Rattle.file_opening.specs.Opened.{IsNewBook};
 ghost use Rattle.reflector_serve.specs.Ports.{port_view, OneFails};
-ghost use Rattle.reflector_serve.specs.Served.{desk_view, size_in, AreQuiet, HasNotOpened, Served};
+ghost use Rattle.reflector_serve.specs.Served.{desk_view, AreQuiet, HasNotOpened, Served};
 
 use crate::ports::{open_ports, read_first};
 use crate::post::Post;
 use crate::report::{Report, ServeFault};
 use crate::seats::split_all;
 use crate::serving::serve_split;
-use crate::standin::{Buffers, DeskRoom};
+use crate::standin::DeskRoom;
 use conf_text::Conf;
-use file_opening::open_sessions;
+use file_opening::{new_table, open_sessions};
 use net_io::{Desk, Port};
+use receive_worker::Buffers;
 use refl_types::Memory;
-use session_desk::DeskBook;
-use session_rule::{Table, TableSize, open_table};
 use session_world::law_rows_stay;
 use std::alloc::Global;
 use std::thread::Threads;
-
-/// A table of the file's size, and its book.
-fn new_table(alloc: Global, conf: &Conf) -> Result<(Table, DeskBook), Memory>
-    ensures size { IfOk result (λ r. size_of r.0 ≡ size_in conf.now) }
-    ensures new { IfOk result (λ r. IsNewBook r.0 conf.now r.1) }
-{
-    let size = TableSize {
-        slots: conf.slots(),
-        rows: conf.rows(),
-        workers: conf.workers(),
-    };
-    let Ok((table, seat)) = open_table(alloc, size) else {
-        return Err(Memory);
-    };
-    let Ok(book) = DeskBook::make(alloc, seat, size) else {
-        return Err(Memory);
-    };
-    Ok((table, book))
-}
 
 /// The memory of so many workers.
 fn make_rooms(alloc: Global, count: usize) -> Result<Vec<Buffers>, Memory>
