@@ -31,11 +31,11 @@ talk_in_pieces-concat (piece ∷ pieces) t = talk_in_pieces-concat pieces (talk 
 
 -- ---- lists of messages
 
-both_empty : (a b : List Message) → a ++ b ≡ [] → (a ≡ []) × (b ≡ [])
+pub both_empty : (a b : List Message) → a ++ b ≡ [] → (a ≡ []) × (b ≡ [])
 both_empty [] b e = (refl, e)
 both_empty (x ∷ a) b e = absurd cc
 
-just_one : (a b : List Message) (m : Message) → a ++ b ≡ m ∷ [] → ((a ≡ []) × (b ≡ m ∷ [])) ⊎ ((a ≡ m ∷ []) × (b ≡ []))
+pub just_one : (a b : List Message) (m : Message) → a ++ b ≡ m ∷ [] → ((a ≡ []) × (b ≡ m ∷ [])) ⊎ ((a ≡ m ∷ []) × (b ≡ []))
 just_one [] b m e = inl (refl, e)
 just_one (x ∷ a) b m e =
     let rest : a ++ b ≡ [] = cc in
@@ -110,7 +110,7 @@ one_octet t b m e =
     ∙ talk-none (heard t b)
     ∙ ap (all_said (at_connection t (connection_after t.connection (b ∷ [])))) e
 
-nothing_after : (c : Connection) (b : ℕ) (stream : List ℕ) (m : Message) → messages_in c (b ∷ []) ≡ m ∷ [] → messages_in (connection_after c (b ∷ [])) stream ≡ [] → (connection_after c (b ∷ stream)).reading.held ≡ [] → stream ≡ []
+pub nothing_after : (c : Connection) (b : ℕ) (stream : List ℕ) (m : Message) → messages_in c (b ∷ []) ≡ m ∷ [] → messages_in (connection_after c (b ∷ [])) stream ≡ [] → (connection_after c (b ∷ stream)).reading.held ≡ [] → stream ≡ []
 nothing_after c b stream m e none held =
     let next = connection_after c (b ∷ []) in
     let open_ = open_stage c.stage (messages_from c.reading (b ∷ [])) m [] e in
