@@ -16,7 +16,7 @@ use Rattle.session_desk.specs.Fits.{BookFits}
 use Rattle.conf_text.specs.File.{File}
 use Rattle.reflector_serve.specs.declared.post.Post.{Post}
 use Rattle.receive_worker.specs.declared.tally.Tally.{Tally}
-use Rattle.reflector_serve.specs.Rooms.{Room}
+use Rattle.control_desk.specs.State.{Room}
 use Rattle.reflector_serve.specs.declared.report.Report.{Report}
 use Rattle.receive_worker.specs.Faults.{RisesBy}
 use Rattle.receive_worker.specs.Accounts.{Accounts}

@@ -16,9 +16,11 @@ use Rattle.session_desk.specs.Parting.{first_book}
 use Rattle.session_desk.specs.Fits.{BookFits}
 use Rattle.conf_text.specs.File.{File}
 use Rattle.file_opening.specs.Opened.{IsNewBook, HasItsRow, HasOpened}
-use Rattle.reflector_serve.specs.Rooms.{Room, first_room}
+use Rattle.control_desk.specs.State.{Room}
+use Rattle.control_desk.specs.Connections.{first_room}
 use Rattle.reflector_serve.specs.declared.report.Report.{Report}
-use Rattle.reflector_serve.specs.Stand.{AreFaultsTold, HasRun}
+use Rattle.control_desk.specs.Faults.{AreFaultsTold}
+use Rattle.control_desk.specs.Run.{HasRun}
 use Rattle.reflector_serve.specs.Ports.{PortView, IsBound, Each, FirstTold}
 use Rattle.reflector_serve.specs.Phases.{KeepsAllElse}
 use Rattle.file_opening.specs.Opened.{size_in}

@@ -1,6 +1,4 @@
 pub mod Ports
-pub mod Rooms
-pub mod Stand
 pub mod Posts
 pub mod Phases
 pub mod Live

@@ -9,15 +9,16 @@ use Rattle.session_rule.specs.Seats.{size_of, joined_parts}
 use Rattle.session_desk.specs.Book.{Book, steps_of, answers_of}
 use Rattle.session_desk.specs.Going.{DeskWent}
 use Rattle.conf_text.specs.File.{File}
-use Rattle.reflector_serve.specs.Rooms.{Room}
-use Rattle.reflector_serve.specs.Stand.{AreFaultsTold, HasRun}
+use Rattle.control_desk.specs.State.{Room}
+use Rattle.control_desk.specs.Faults.{AreFaultsTold}
+use Rattle.control_desk.specs.Run.{HasRun}
 use Rattle.reflector_serve.specs.Ports.{PortView}
 use Rattle.reflector_serve.specs.Phases.{KeepsAllElse}
 use Rattle.reflector_serve.specs.Live.{AreBound}
 use Rattle.reflector_serve.specs.Served.{DeskView, AllPorts, AllServed}
 use Rattle.reflector_serve.specs.Opening.{IsOpening}
 use Rattle.reflector_serve.specs.declared.report.Report.{Report}
-use Rattle.reflector_serve.specs.declared.standin.DeskTally.{DeskTally}
+use Rattle.control_desk.specs.declared.counts.DeskTally.{DeskTally}
 
 pub record DeskRan {D S : Type 0} (t : Table) (v : DeskView D S) (turns : ℕ) (room : Room) (d e : D) (b c : Book) (tally : DeskTally) : Type 0 where
   pub went : DeskWent t b c

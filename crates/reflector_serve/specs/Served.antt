@@ -21,11 +21,13 @@ use Rattle.receive_worker.specs.declared.tally.Tally.{Tally}
 use Rattle.receive_worker.specs.Faults.{RisesBy}
 use Rattle.receive_worker.specs.Accounts.{Accounts}
 use Rattle.receive_worker.specs.Work.{Round, HasWorked}
-use Rattle.reflector_serve.specs.Stand.{AreFaultsTold, HasRun, setting_of, first_state}
+use Rattle.control_desk.specs.State.{setting_of, first_state}
+use Rattle.control_desk.specs.Faults.{AreFaultsTold}
+use Rattle.control_desk.specs.Run.{HasRun}
 use Rattle.reflector_serve.specs.Ports.{PortView}
 use Rattle.reflector_serve.specs.Phases.{KeepsAllElse}
 use Rattle.reflector_serve.specs.Live.{AreBound}
-use Rattle.reflector_serve.specs.declared.standin.DeskTally.{DeskTally}
+use Rattle.control_desk.specs.declared.counts.DeskTally.{DeskTally}
 use Rattle.reflector_serve.specs.declared.report.Report.{Report}
 
 -- the opening of a session of the file

@@ -8,7 +8,6 @@ mod report;
 mod seats;
 mod whole;
 mod serving;
-mod standin;
 
 pub use report::{Report, ServeFault};
 pub use whole::serve;

@@ -1,6 +1,6 @@
 //! What is told of a run, or why there was none.
 
-use crate::standin::DeskTally;
+use control_desk::DeskTally;
 use receive_worker::Tally;
 
 /// What all workers and the desk did, and how many sessions were live at the end.

@@ -14,7 +14,7 @@ use crate::post::Post;
 use crate::posts::work_all;
 use crate::report::Report;
 use crate::seats::join_all;
-use crate::standin::{DeskRoom, DeskTally, run_desk};
+use control_desk::{DeskRoom, DeskTally, run_desk};
 use conf_text::Conf;
 use net_io::{Desk, Port};
 use receive_worker::Tally;

@@ -9,7 +9,7 @@ use crate::post::Post;
 use crate::report::{Report, ServeFault};
 use crate::seats::split_all;
 use crate::serving::serve_split;
-use crate::standin::DeskRoom;
+use control_desk::DeskRoom;
 use conf_text::Conf;
 use file_opening::{new_table, open_sessions};
 use net_io::{Desk, Port};

@@ -1,5 +1,5 @@
 use Rattle.std.proofs.Common.{ℕ, subst}
-use Rattle.reflector_serve.specs.Stand.{HasRun}
+use Rattle.control_desk.specs.Run.{HasRun}
 use Rattle.reflector_serve.proofs.serving.run_at.Goals as goal
 
 pub returns : goal.returns
