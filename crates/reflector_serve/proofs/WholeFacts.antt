@@ -1,5 +1,5 @@
 -- All parts of a run.
-use Rattle.std.proofs.Common.{◌≡◌, ℕ, List, [], ◌∷◌, ◌++◌, length, map, Option, sym, refl, ap, ◌∙◌, subst, arith}
+use Rattle.std.proofs.Common.{◌≡◌, ℕ, List, [], ◌∷◌, ◌++◌, length, map, Option, Result, Ok, Err, IfOk, sym, refl, ap, ◌∙◌, subst, arith}
 use Rattle.net_io.specs.Log.{Grows}
 use Rattle.net_io.specs.Port.{read}
 use Rattle.net_io.specs.Desk.{opened}
@@ -19,6 +19,7 @@ use Rattle.file_opening.specs.Opened.{IsNewBook, HasItsRow, HasOpened}
 use Rattle.control_desk.specs.State.{Room}
 use Rattle.control_desk.specs.Connections.{first_room}
 use Rattle.reflector_serve.specs.declared.report.Report.{Report}
+use Rattle.reflector_serve.specs.declared.report.ServeFault.{ServeFault}
 use Rattle.control_desk.specs.Faults.{AreFaultsTold}
 use Rattle.control_desk.specs.Run.{HasRun}
 use Rattle.reflector_serve.specs.Ports.{PortView, IsBound, Each, FirstTold}
@@ -98,3 +99,8 @@ wide v w f ps qs rest d e report s = record {
   live = s.live;
   live_count = s.live_count;
 }
+
+pub wide_ok : {P S D T : Type 0} (v : PortView P S) (w : DeskView D T) (f : File) (all ps qs rest : List P) (d e : D) (r : Result Report ServeFault) → all ≡ ps ++ rest
+    → IfOk r (λ y. Served v w f ps qs d e y) → IfOk r (λ y. Served v w f all (qs ++ rest) d e y)
+wide_ok {P} v w f all ps qs rest d e (Ok y) split s = subst (λ (xs : List P). Served v w f xs (qs ++ rest) d e y) (sym split) (wide v w f ps qs rest d e y s)
+wide_ok v w f all ps qs rest d e (Err x) split s = tt
