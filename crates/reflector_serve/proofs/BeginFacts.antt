@@ -83,8 +83,10 @@ rows_known z b c parts lists fits stay one grew x row is =
 
 pub begins : (t : Table) (z : TableSize) (f : File) (moment : ℕ) (before b c : Book) (parts : List Part) (lists : List (List Step)) → HasOpened t f moment before b → BookFits b → RowsStay
     → (one : OneHistory z (steps_of b) (steps_of c) parts lists) → (more : List Step) × (steps_of c ≡ more ++ steps_of b) → (later : List (Event ConfigParts)) × (one.history ≡ later ++ map opening_event (reverse f.sessions))
-begins t z f moment before b c parts lists h fits stay one grew = let config = config_at (steps_of c) in
-    (one.later, one.begins ∙ ap (λ (es : List (Event ConfigParts)). one.later ++ es)
-    (events_map config (answers_of b) ∙ ap (map (event_of config)) h.answers ∙ map_reverse (event_of config) (map opening_of b.live)
-    ∙ ap (λ (es : List (Event ConfigParts)). reverse es) (session_events b.rows moment config f.sessions b.live h.live (rows_known z b c parts lists fits stay one grew))
-    ∙ sym (map_reverse opening_event f.sessions)))
+begins t z f moment before b c parts lists h fits stay one grew = let config = config_at (steps_of c) in (
+  one.later,
+  one.begins ∙ ap (λ (es : List (Event ConfigParts)). one.later ++ es)
+      (events_map config (answers_of b) ∙ ap (map (event_of config)) h.answers ∙ map_reverse (event_of config) (map opening_of b.live)
+      ∙ ap (λ (es : List (Event ConfigParts)). reverse es) (session_events b.rows moment config f.sessions b.live h.live (rows_known z b c parts lists fits stay one grew))
+      ∙ sym (map_reverse opening_event f.sessions)),
+)

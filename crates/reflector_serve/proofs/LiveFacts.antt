@@ -122,6 +122,7 @@ among_left j (l ∷ ls) k = ⊎_elim
     gone : (b c r : Bool) → c ≡ b → (not b && r) ≡ (not b && (c || r))
     gone true c r e = refl
     gone false c r e = sym (ap (λ (x : Bool). x || r) e)
+
     stays : (b c r : Bool) → (b ≡ true → c ≡ false) → (c || (not b && r)) ≡ (not b && (c || r))
     stays true c r f = rw (f refl) refl
     stays false c r f = refl

@@ -92,7 +92,6 @@ lists_length (r ∷ rs) = ap suc (lists_length rs)
 -- ---- all
 
 module _ {P S D T : Type 0} (v : PortView P S) (w : DeskView D T) (t : Table) (f : File) (room : Room) (os qs : List P) (d e : D) (rs mid : List (Post P)) (b at_end c : Book) (report : Report) where
-
   pub has_served : JoinedHistory → IsWithinLimits (size_of t) → BookFits c → AreFresh rs → length os ≡ length rs → AllWorked v t f os qs rs mid → (ran : DeskRan t w f.turns room d e b at_end report.desk)
       → ((first base : List Step) → Phase t first base at_end (length mid) [] → Phase t first base c 0 (lists_of mid)) → KeepsAllElse at_end c
       → report.workers.items ≡ map (λ (p : Post P). p.tally) mid → report.live ≡ length c.live

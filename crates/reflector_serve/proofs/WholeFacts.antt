@@ -40,7 +40,6 @@ pub record IsReady {D S : Type 0} (v : DeskView D S) (f : File) (d e : D) : Type
   pub still : v.faults e ≡ v.faults d
 
 module _ {P S D T : Type 0} (v : PortView P S) (w : DeskView D T) (t : Table) (f : File) (room : Room) (moment : ℕ) (ps ts os qs : List P) (d r e : D) (before b split c : Book) (report : Report) where
-
   pub whole_served : size_of t ≡ size_in f → IsNewBook t f before → HasOpened t f moment before b → BookFits b → RowsStay → KeepsAllElse b split → room ≡ first_room f
       → FirstTold v moment ps ts → Each (IsBound v f.locals) ts os → length ps ≡ f.workers → IsReady w f d r
       → HasServed v w t f room (steps_of b) os qs r e split c report → Served v w f ps qs d e report
