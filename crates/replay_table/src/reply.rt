@@ -233,12 +233,37 @@ pub fn serve(
     requires room { ANSWER_ROOM ≤ length out.old }
     ensures { IsServed locals.now session.now (datagram_of meta.now t3 octets.now) out.old out.new result }
 {
-    let (ttl, arrival) = (meta.ttl, meta.arrival);
     match session.key.mode {
         Mode::Plain if !session.reflector().may_redirect() => {
             judged(session, octets)?;
             Ok(write_usual(session, meta, &meta.peer, t3, octets, out))
         }
+        Mode::Plain | Mode::Auth | Mode::Twamp => {
+            serve_other(session, meta, t3, octets, locals, out)
+        }
+    }
+}
+
+/// The same in the other modes, and where a tail may say where the reply goes.
+#[inline(always)]
+fn serve_other(
+    session: &Session,
+    meta: &Meta,
+    t3: u64,
+    octets: &[u8],
+    locals: &[LocalAddr],
+    out: &mut [u8],
+) -> Result<usize, Silent>
+    requires local { meta.now.local ≡ session.now.key.local }
+    requires peer { meta.now.peer ≡ session.now.key.peer }
+    requires measured { meta.now.len ≡ length octets.now }
+    requires limit { length octets.now ≤ datagram_limit }
+    requires locals { length locals.now ≤ 16 }
+    requires room { ANSWER_ROOM ≤ length out.old }
+    ensures { IsServed locals.now session.now (datagram_of meta.now t3 octets.now) out.old out.new result }
+{
+    let (ttl, arrival) = (meta.ttl, meta.arrival);
+    match session.key.mode {
         Mode::Twamp => {
             judged_test(session, octets)?;
             Ok(write_test(session, ttl, arrival, t3, octets, out))
