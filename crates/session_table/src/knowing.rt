@@ -64,7 +64,7 @@ impl KnownRows {
     }
 
     /// Whether a row is kept.
-    #[inline]
+    #[inline(always)]
     fn keeps(&self, row: u32) -> bool
         ensures yes { result ≡ true → (c : ConfigParts) × Keeps self.now row c }
         ensures no { result ≡ false → (c : ConfigParts) → ¬ Keeps self.now row c }
@@ -97,8 +97,25 @@ impl KnownRows {
     }
 }
 
+/// Loads the words of a row that an open word has named, and keeps the row. It stands apart, since a row is seldom new.
+#[inline(never)]
+fn learn(table: &Table, seat: &mut WorkerSeat, known: &mut KnownRows, row: u32)
+    requires same { IsWorkerOf table.now seat.old }
+    requires schedule { IsWorkerOfOneSchedule (size_of table.now) (worker_number seat.old) (worker_steps seat.old) }
+    requires named { names_open (worker_steps seat.old) row ≡ true }
+    requires unkept { (c : ConfigParts) → ¬ Keeps known.old row c }
+    ensures knows { KnowsRow known.old known.new (worker_steps seat.old) (worker_steps seat.new) row }
+    ensures some { 0 < row }
+    ensures steps { MaybeLoads row (worker_steps seat.old) (worker_steps seat.new) }
+    ensures seat { HasCome table.now seat.old seat.new (worker_steps seat.new) }
+    ensures known { StaysKnown known.old known.new (worker_steps seat.old) (worker_steps seat.new) }
+{
+    let config = load_config(table, seat, row);
+    known.keep(row, &config);
+}
+
 /// Loads the words of a row that an open word has named, unless the row is kept.
-#[inline]
+#[inline(always)]
 pub(crate) fn know(table: &Table, seat: &mut WorkerSeat, known: &mut KnownRows, row: u32)
     requires same { IsWorkerOf table.now seat.old }
     requires schedule { IsWorkerOfOneSchedule (size_of table.now) (worker_number seat.old) (worker_steps seat.old) }
@@ -114,6 +131,5 @@ pub(crate) fn know(table: &Table, seat: &mut WorkerSeat, known: &mut KnownRows, 
     if known.keeps(row) {
         return;
     }
-    let config = load_config(table, seat, row);
-    known.keep(row, &config);
+    learn(table, seat, known, row);
 }
