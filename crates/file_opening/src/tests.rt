@@ -6,7 +6,8 @@ use refl_types::Mode;
 use std::alloc::Global;
 use std::test::Fail;
 
-const TEXT: &str = "locals = [\"192.0.2.1:862\", \"192.0.2.1:863\"]\ntwamp = \"core\"\n[configs.edge]\n[configs.core]\nscale = 3\n[[sessions]]\npeer = \"192.0.2.2:5000\"\nconfig = \"edge\"\nssid = 7\n[[sessions]]\nlocal = 1\npeer = \"192.0.2.2:5000\"\nconfig = \"core\"\nmode = \"twamp\"\nwait = 9\n";
+const TEXT: &str =
+    "locals = [\"192.0.2.1:862\", \"192.0.2.1:863\"]\ntwamp = \"core\"\n[configs.edge]\n[configs.core]\nscale = 3\n[[sessions]]\npeer = \"192.0.2.2:5000\"\nconfig = \"edge\"\nssid = 7\n[[sessions]]\nlocal = 1\npeer = \"192.0.2.2:5000\"\nconfig = \"core\"\nmode = \"twamp\"\nwait = 9\n";
 
 fn conf_of(alloc: Global, text: &str) -> Result<Conf, ConfFault> {
     read_conf(alloc, text.as_bytes())

@@ -1,5 +1,5 @@
 -- The history begins with the openings of the file's sessions.
-use Rattle.std.proofs.Common.{◌≡◌, ℕ, zero, suc, ◌+◌, ◌-◌, ◌*◌, ◌<◌, ◌≤◌, false, List, [], ◌∷◌, ◌++◌, length, map, reverse, Some, sym, refl, ap, ◌∙◌, subst, arith}
+use Rattle.std.proofs.Common.{◌≡◌, ℕ, zero, suc, ◌-◌, ◌<◌, List, [], ◌∷◌, ◌++◌, length, map, reverse, Some, sym, refl, ap, ◌∙◌, subst, arith}
 use Rattle.std.specs.List.{AllZip, slice_get}
 use Rattle.std.proofs.lemmas.List.{map-append, reverse-append}
 use Rattle.refl_types.specs.declared.config.ConfigParts.{ConfigParts}
@@ -15,7 +15,6 @@ use Rattle.session_world.specs.Rows.{RowsStay}
 use Rattle.session_world.specs.OneOrder.{events_by}
 use Rattle.session_world.specs.Joined.{AreOpenings, OneHistory}
 use Rattle.session_rule.specs.declared.seats.Table.{Table}
-use Rattle.session_rule.specs.Seats.{joined_parts}
 use Rattle.session_desk.specs.declared.session.Session.{Session}
 use Rattle.session_desk.specs.Book.{Book, steps_of, answers_of}
 use Rattle.session_desk.specs.Fits.{BookFits}
@@ -83,8 +82,10 @@ rows_known z b c parts lists fits stay one grew x row is =
 
 pub begins : (t : Table) (z : TableSize) (f : File) (moment : ℕ) (before b c : Book) (parts : List Part) (lists : List (List Step)) → HasOpened t f moment before b → BookFits b → RowsStay
     → (one : OneHistory z (steps_of b) (steps_of c) parts lists) → (more : List Step) × (steps_of c ≡ more ++ steps_of b) → (later : List (Event ConfigParts)) × (one.history ≡ later ++ map opening_event (reverse f.sessions))
-begins t z f moment before b c parts lists h fits stay one grew = let config = config_at (steps_of c) in
-    (one.later, one.begins ∙ ap (λ (es : List (Event ConfigParts)). one.later ++ es)
-    (events_map config (answers_of b) ∙ ap (map (event_of config)) h.answers ∙ map_reverse (event_of config) (map opening_of b.live)
-    ∙ ap (λ (es : List (Event ConfigParts)). reverse es) (session_events b.rows moment config f.sessions b.live h.live (rows_known z b c parts lists fits stay one grew))
-    ∙ sym (map_reverse opening_event f.sessions)))
+begins t z f moment before b c parts lists h fits stay one grew = let config = config_at (steps_of c) in (
+  one.later,
+  one.begins ∙ ap (λ (es : List (Event ConfigParts)). one.later ++ es)
+      (events_map config (answers_of b) ∙ ap (map (event_of config)) h.answers ∙ map_reverse (event_of config) (map opening_of b.live)
+      ∙ ap (λ (es : List (Event ConfigParts)). reverse es) (session_events b.rows moment config f.sessions b.live h.live (rows_known z b c parts lists fits stay one grew))
+      ∙ sym (map_reverse opening_event f.sessions)),
+)

@@ -1,6 +1,6 @@
 -- The keys that a legal history leaves bound are those that the desk's answers leave.
-use Rattle.std.proofs.Common.{◌≡◌, ◌⊎◌, ⊎_elim, ℕ, ◌<◌, ◌==◌, Bool, true, false, ◌||◌, ◌&&◌, not, if◌then◌else◌, List, [], ◌∷◌, ◌++◌, map, Option, Some, None, sym, refl, ap, ◌∙◌, subst, arith, eq-eqb, ne_eqb}
-use Rattle.std.specs.List.{list_any, filter}
+use Rattle.std.proofs.Common.{◌≡◌, ⊎_elim, ℕ, ◌==◌, Bool, true, false, ◌||◌, ◌&&◌, not, if◌then◌else◌, List, [], ◌∷◌, ◌++◌, map, Option, Some, None, sym, refl, ap, ◌∙◌, subst, arith, eq-eqb, ne_eqb}
+use Rattle.std.specs.List.{list_any}
 use Rattle.std.proofs.lemmas.List.Folds.{list_any-append}
 use Rattle.refl_types.specs.declared.types.Key.{Key}
 use Rattle.refl_types.specs.Same.{same_key}
@@ -122,6 +122,7 @@ among_left j (l ∷ ls) k = ⊎_elim
     gone : (b c r : Bool) → c ≡ b → (not b && r) ≡ (not b && (c || r))
     gone true c r e = refl
     gone false c r e = sym (ap (λ (x : Bool). x || r) e)
+
     stays : (b c r : Bool) → (b ≡ true → c ≡ false) → (c || (not b && r)) ≡ (not b && (c || r))
     stays true c r f = rw (f refl) refl
     stays false c r f = refl

@@ -1,5 +1,5 @@
 -- Ports that are opened one after the other.
-use Rattle.std.proofs.Common.{◌≡◌, ◌⊎◌, inl, inr, ⊎_elim, ℕ, zero, suc, ◌+◌, ◌<◌, ◌≤◌, List, [], ◌∷◌, length, get_or, set, Result, Ok, Err, OnErr, sym, refl, ap, ◌∙◌, subst, arith}
+use Rattle.std.proofs.Common.{◌≡◌, ◌⊎◌, ⊎_elim, ℕ, suc, ◌+◌, ◌<◌, ◌≤◌, List, ◌∷◌, length, get_or, set, Result, Ok, Err, OnErr, sym, refl, ap, ◌∙◌, subst, arith}
 use Rattle.std.proofs.lemmas.Bool.{cases_order}
 use Rattle.std.proofs.lemmas.List.{length-set, get_or-set_same, get_or-set_other, get_or_default}
 use Rattle.refl_types.specs.declared.types.Endpoint.{Endpoint}
@@ -18,7 +18,6 @@ pub record Sharing {P S : Type 0} (v : PortView P S) (locals : List Endpoint) (n
 
 -- at the place n stands x now, which came of what stood there
 module _ {P S : Type 0} (v : PortView P S) (locals : List Endpoint) (n : ℕ) (ps qs : List P) (d0 x : P) (s : Sharing v locals n ps qs) (inside : n < length qs) where
-
   was : (d : P) → get_or qs n d0 ≡ get_or ps n d
   was d = get_or_default qs n d0 d inside ∙ s.rest n d (omega arith)
 

@@ -1,5 +1,5 @@
 -- The ports at the opening, one after the other.
-use Rattle.std.proofs.Common.{◌≡◌, ℕ, zero, suc, ◌+◌, ◌<◌, ◌≤◌, List, [], ◌∷◌, ◌++◌, length, get_or, Option, Some, None, sym, refl, ap, ◌∙◌, subst, arith}
+use Rattle.std.proofs.Common.{◌≡◌, ℕ, suc, ◌<◌, List, [], ◌∷◌, length, get_or, Option, Some, None, sym, refl, ap, ◌∙◌, subst, arith}
 use Rattle.std.proofs.lemmas.List.{append-nil}
 use Rattle.refl_types.specs.declared.types.Endpoint.{Endpoint}
 use Rattle.net_io.specs.Log.{Grows}
@@ -23,7 +23,6 @@ grows_none {E} a b e = subst (λ (x : Option (List E)). Grows a x []) (sym e) (s
     same (Some xs) = sym (append-nil xs)
 
 module _ {P S : Type 0} (v : PortView P S) (moment : ℕ) (ps ts os : List P) (told : FirstTold v moment ps ts) where
-
   first_quiet : (d : P) → IsIdle v (get_or ts 0 d) (get_or os 0 d) → IsQuiet v (read moment ∷ []) (get_or ps 0 d) (get_or os 0 d)
   first_quiet d idle = let f = told.first d in record {
     log = subst (λ (x : Option (List PortEntry)). Grows (v.log (get_or ps 0 d)) x (read moment ∷ [])) (sym idle.log) f.log;

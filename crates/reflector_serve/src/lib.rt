@@ -6,8 +6,8 @@ mod post;
 mod posts;
 mod report;
 mod seats;
-mod whole;
 mod serving;
+mod whole;
 
 pub use report::{Report, ServeFault};
 pub use whole::serve;

@@ -14,8 +14,8 @@ use crate::post::Post;
 use crate::posts::work_all;
 use crate::report::Report;
 use crate::seats::join_all;
-use control_desk::{DeskRoom, DeskTally, run_desk};
 use conf_text::Conf;
+use control_desk::{DeskRoom, DeskTally, run_desk};
 use net_io::{Desk, Port};
 use receive_worker::Tally;
 use session_desk::DeskBook;
@@ -105,7 +105,16 @@ pub(crate) fn serve_split<R: Threads + Sync, P: Port + Send, D: Desk>(
     ensures { (first base : List Step) → Phase table.now first base book.old (vec_len posts) []
         → HasServed (port_view P.log P.coming P.bound P.made P.faults) (desk_view D.log D.coming D.made D.faults) table.now conf.now room.old first ports.old ports.new desk.old desk.new book.old book.new result }
 {
-    let tally = run_all(rt, table, conf, ports, posts.as_mut_slice(), book, room, desk);
+    let tally = run_all(
+        rt,
+        table,
+        conf,
+        ports,
+        posts.as_mut_slice(),
+        book,
+        room,
+        desk,
+    );
     tallies_of(posts.as_slice(), &mut tallies);
     join_all(table, book, posts);
     law_joined_history();
