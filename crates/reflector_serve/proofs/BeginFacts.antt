@@ -1,5 +1,5 @@
 -- The history begins with the openings of the file's sessions.
-use Rattle.std.proofs.Common.{◌≡◌, ℕ, zero, suc, ◌+◌, ◌-◌, ◌*◌, ◌<◌, ◌≤◌, false, List, [], ◌∷◌, ◌++◌, length, map, reverse, Some, sym, refl, ap, ◌∙◌, subst, arith}
+use Rattle.std.proofs.Common.{◌≡◌, ℕ, zero, suc, ◌-◌, ◌<◌, List, [], ◌∷◌, ◌++◌, length, map, reverse, Some, sym, refl, ap, ◌∙◌, subst, arith}
 use Rattle.std.specs.List.{AllZip, slice_get}
 use Rattle.std.proofs.lemmas.List.{map-append, reverse-append}
 use Rattle.refl_types.specs.declared.config.ConfigParts.{ConfigParts}
@@ -15,7 +15,6 @@ use Rattle.session_world.specs.Rows.{RowsStay}
 use Rattle.session_world.specs.OneOrder.{events_by}
 use Rattle.session_world.specs.Joined.{AreOpenings, OneHistory}
 use Rattle.session_rule.specs.declared.seats.Table.{Table}
-use Rattle.session_rule.specs.Seats.{joined_parts}
 use Rattle.session_desk.specs.declared.session.Session.{Session}
 use Rattle.session_desk.specs.Book.{Book, steps_of, answers_of}
 use Rattle.session_desk.specs.Fits.{BookFits}

@@ -1,5 +1,5 @@
 -- Two halves of the posts side by side, and one post.
-use Rattle.std.proofs.Common.{◌≡◌, ℕ, suc, ◌≤◌, ◌<◌, List, [], ◌∷◌, ◌++◌, length, get_or, set, sym, refl, ap, subst, arith}
+use Rattle.std.proofs.Common.{◌≡◌, ◌≤◌, ◌<◌, List, [], ◌∷◌, ◌++◌, length, get_or, set, sym, refl, subst, arith}
 use Rattle.refl_types.specs.declared.types.Endpoint.{Endpoint}
 use Rattle.session_rule.specs.declared.seats.Table.{Table}
 use Rattle.session_rule.specs.Seats.{IsWorkerOf, worker_steps}

@@ -2,18 +2,17 @@
 use Rattle.std.proofs.Common.{◌≡◌, ◌⊎◌, inl, inr, ⊎_elim, ℕ, suc, ◌+◌, ◌<◌, ◌≤◌, ◌==◌, Bool, true, false, ◌||◌, ◌&&◌, not, if◌then◌else◌, List, [], ◌∷◌, ◌++◌, length, sym, refl, ap, ◌∙◌, subst, arith, eq-eqb, ne_eqb, length-append, append_assoc}
 use Rattle.std.proofs.Math.Nat.{eq-or-lt_of_le}
 use Rattle.std.proofs.lemmas.Bool.{cases_lt}
-use Rattle.std.proofs.lemmas.List.{append-nil}
 use Rattle.session_world.specs.declared.steps.Step.{Step}
 use Rattle.session_world.specs.declared.steps.Step.TheVariants.{Split, Join}
 use Rattle.session_world.specs.declared.steps.Part.{Part}
 use Rattle.session_world.specs.Desk.{is_split}
 use Rattle.session_world.specs.Answers.{Answer, desk_gives, desk_answers, answers_at_split}
 use Rattle.session_world.specs.Joined.{AllEnded, AreOpenings, HasJoinedAll}
-use Rattle.session_world.specs.Runs.{own_parts, ended_part, IsDeskOfOneSchedule}
+use Rattle.session_world.specs.Runs.{own_parts, ended_part}
 use Rattle.session_rule.specs.declared.seats.Table.{Table}
 use Rattle.session_rule.specs.declared.seats.WorkerSeat.{WorkerSeat}
 use Rattle.session_rule.specs.Splitting.{IsLeastFree}
-use Rattle.session_rule.specs.Seats.{size_of, desk_steps, joined_parts, worker_number, worker_steps}
+use Rattle.session_rule.specs.Seats.{size_of, joined_parts, worker_number, worker_steps}
 use Rattle.session_desk.specs.Book.{Book, IsBookOf, steps_of, answers_of}
 use Rattle.session_desk.specs.Parting.{HasSplit, IsJoined}
 use Rattle.session_desk.specs.Going.{StandsAt, DeskWent}

@@ -1,6 +1,5 @@
 -- From what each thread did, and the laws, to what the whole run leaves.
-use Rattle.std.proofs.Common.{◌≡◌, ℕ, zero, suc, ◌+◌, List, [], ◌∷◌, ◌++◌, length, map, take, Option, sym, refl, ap, ◌∙◌, subst, arith}
-use Rattle.refl_types.specs.declared.types.Endpoint.{Endpoint}
+use Rattle.std.proofs.Common.{◌≡◌, ℕ, zero, suc, ◌+◌, List, [], ◌∷◌, ◌++◌, length, map, take, sym, refl, ap, ◌∙◌, subst, arith}
 use Rattle.refl_types.specs.declared.config.ConfigParts.{ConfigParts}
 use Rattle.net_io.specs.Port.{PortEntry}
 use Rattle.session_world.specs.declared.steps.Step.{Step}
@@ -8,10 +7,10 @@ use Rattle.session_world.specs.Sizes.{IsWithinLimits}
 use Rattle.session_world.specs.Desk.{config_at}
 use Rattle.session_world.specs.Rows.{ReadsRows}
 use Rattle.session_world.specs.History.{Event}
-use Rattle.session_world.specs.Joined.{AllTold, HasJoinedAll, OneHistory, JoinedHistory}
+use Rattle.session_world.specs.Joined.{AllTold, JoinedHistory}
 use Rattle.session_rule.specs.declared.seats.Table.{Table}
 use Rattle.session_rule.specs.Seats.{size_of, joined_parts, worker_steps}
-use Rattle.session_desk.specs.Book.{Book, IsBookOf, steps_of, answers_of}
+use Rattle.session_desk.specs.Book.{Book, steps_of}
 use Rattle.session_desk.specs.Fits.{BookFits}
 use Rattle.conf_text.specs.File.{File}
 use Rattle.reflector_serve.specs.declared.post.Post.{Post}
@@ -24,7 +23,6 @@ use Rattle.receive_worker.specs.Work.{HasWorked}
 use Rattle.reflector_serve.specs.Ports.{PortView}
 use Rattle.reflector_serve.specs.Posts.{AllSeated, AreSeated, AreNumbered, AreFresh, lists_of, WorkedAt, AllWorked}
 use Rattle.reflector_serve.specs.Phases.{Phase, KeepsAllElse}
-use Rattle.reflector_serve.specs.Live.{AreBound}
 use Rattle.reflector_serve.specs.Served.{DeskView, AllPorts, IsServed, AllServed}
 use Rattle.reflector_serve.specs.Opening.{IsOpening}
 use Rattle.reflector_serve.specs.Running.{DeskRan, HasServed}

@@ -1,9 +1,8 @@
 -- The loop that splits all workers off.
-use Rattle.std.proofs.Common.{◌≡◌, inr, ℕ, suc, ◌+◌, ◌<◌, ◌≤◌, false, List, [], ◌∷◌, ◌++◌, length, sym, refl, ap, ◌∙◌, subst, arith, length-append}
+use Rattle.std.proofs.Common.{◌≡◌, inr, ℕ, suc, ◌<◌, ◌≤◌, false, List, [], ◌∷◌, ◌++◌, length, sym, refl, ap, ◌∙◌, subst, arith, length-append}
 use Rattle.session_world.specs.declared.steps.Step.{Step}
 use Rattle.session_world.specs.Desk.{is_split}
 use Rattle.session_rule.specs.declared.seats.Table.{Table}
-use Rattle.session_rule.specs.declared.seats.Seat.{Seat}
 use Rattle.session_rule.specs.Seats.{size_of, worker_number}
 use Rattle.session_desk.specs.Book.{Book, IsBookOf, steps_of}
 use Rattle.session_desk.specs.Parting.{HasSplit}

@@ -1,21 +1,15 @@
 -- All parts of a run.
-use Rattle.std.proofs.Common.{◌≡◌, ℕ, List, [], ◌∷◌, ◌++◌, length, map, Option, Result, Ok, Err, IfOk, sym, refl, ap, ◌∙◌, subst, arith}
+use Rattle.std.proofs.Common.{◌≡◌, ℕ, List, [], ◌∷◌, ◌++◌, length, Result, Ok, Err, IfOk, sym, ◌∙◌, subst}
 use Rattle.net_io.specs.Log.{Grows}
 use Rattle.net_io.specs.Port.{read}
 use Rattle.net_io.specs.Desk.{opened}
-use Rattle.session_world.specs.declared.steps.TableSize.{TableSize}
-use Rattle.session_world.specs.declared.steps.Step.{Step}
-use Rattle.session_world.specs.declared.steps.Part.{Part}
 use Rattle.session_world.specs.Rows.{RowsStay}
-use Rattle.session_world.specs.Runs.{IsDeskOfOneSchedule}
 use Rattle.session_rule.specs.declared.seats.Table.{Table}
-use Rattle.session_rule.specs.declared.seats.Seat.{Seat}
-use Rattle.session_rule.specs.Seats.{size_of, desk_steps, joined_parts, IsNewTable}
-use Rattle.session_desk.specs.Book.{Book, IsBookOf, steps_of}
-use Rattle.session_desk.specs.Parting.{first_book}
+use Rattle.session_rule.specs.Seats.{size_of, joined_parts}
+use Rattle.session_desk.specs.Book.{Book, steps_of}
 use Rattle.session_desk.specs.Fits.{BookFits}
 use Rattle.conf_text.specs.File.{File}
-use Rattle.file_opening.specs.Opened.{IsNewBook, HasItsRow, HasOpened}
+use Rattle.file_opening.specs.Opened.{IsNewBook, HasOpened}
 use Rattle.control_desk.specs.State.{Room}
 use Rattle.control_desk.specs.Connections.{first_room}
 use Rattle.reflector_serve.specs.declared.report.Report.{Report}

@@ -1,5 +1,5 @@
 -- Ports beyond the last worker.
-use Rattle.std.proofs.Common.{◌≡◌, ◌⊎◌, ⊎_elim, ℕ, zero, suc, ◌+◌, ◌<◌, ◌≤◌, List, [], ◌∷◌, ◌++◌, length, get_or, sym, refl, ap, ◌∙◌, subst, arith, length-append}
+use Rattle.std.proofs.Common.{◌≡◌, ℕ, zero, suc, ◌<◌, List, [], ◌∷◌, ◌++◌, length, get_or, sym, refl, ap, subst, arith, length-append}
 use Rattle.std.proofs.lemmas.List.{get_or_append_left}
 use Rattle.refl_types.specs.declared.types.Endpoint.{Endpoint}
 use Rattle.refl_types.specs.declared.config.ConfigParts.{ConfigParts}
@@ -7,7 +7,6 @@ use Rattle.port_io.specs.Outside.{Rises}
 use Rattle.net_io.specs.Port.{PortEntry, read}
 use Rattle.session_world.specs.declared.steps.Step.{Step}
 use Rattle.session_rule.specs.declared.seats.Table.{Table}
-use Rattle.session_rule.specs.Seats.{worker_steps}
 use Rattle.conf_text.specs.File.{File}
 use Rattle.reflector_serve.specs.declared.post.Post.{Post}
 use Rattle.receive_worker.specs.declared.tally.Tally.{Tally}

@@ -1,5 +1,5 @@
 -- What the desk's book tells from the opening to the last join (this project's own). Lists have their latest entry first.
-use Rattle.std.specs.Prelude.{◌≡◌, ◌⊎◌, ℕ, suc, ◌+◌, ◌<◌, ◌≤◌, true, false, List, [], ◌∷◌, ◌++◌, length}
+use Rattle.std.specs.Prelude.{◌≡◌, ◌⊎◌, ℕ, suc, ◌+◌, ◌<◌, ◌≤◌, true, false, List, [], ◌++◌, length}
 use Rattle.session_world.specs.declared.steps.Step.{Step}
 use Rattle.session_world.specs.Desk.{is_split}
 use Rattle.session_world.specs.Answers.{desk_answers}

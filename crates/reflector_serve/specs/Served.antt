@@ -1,7 +1,6 @@
 -- One run of the reflector, from the opening to the last join (this project's own).
-use Rattle.std.specs.Prelude.{◌≡◌, ℕ, suc, ◌+◌, List, [], ◌∷◌, ◌++◌, length, map, reverse, Option}
+use Rattle.std.specs.Prelude.{◌≡◌, ℕ, ◌+◌, List, [], ◌∷◌, ◌++◌, length, map, reverse, Option}
 use Rattle.refl_types.specs.declared.config.ConfigParts.{ConfigParts}
-use Rattle.refl_types.specs.declared.types.Endpoint.{Endpoint}
 use Rattle.net_io.specs.Log.{Grows}
 use Rattle.net_io.specs.Port.{PortEntry, read}
 use Rattle.net_io.specs.Desk.{DeskEntry, opened, open_failed}

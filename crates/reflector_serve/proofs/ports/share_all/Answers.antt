@@ -1,4 +1,4 @@
-use Rattle.std.proofs.Common.{rules, ◌<◌, length, Err}
+use Rattle.std.proofs.Common.{rules, ◌<◌, length}
 use Rattle.reflector_serve.specs.Ports.{port_view}
 use Rattle.reflector_serve.proofs.PortFacts.{share_more, share_failed, one_fails, on_err}
 use Rattle.reflector_serve.proofs.ports.share_all.Goals as goal

@@ -1,6 +1,6 @@
 use Rattle.std.proofs.Common.{rules, ◌≡◌, [], ◌∷◌, ◌++◌}
 use Rattle.session_rule.specs.Seats.{IsWorkerOf}
-use Rattle.reflector_serve.proofs.JoinFacts.{start, its_worker, step, finish}
+use Rattle.reflector_serve.proofs.JoinFacts.{its_worker, step}
 use Rattle.reflector_serve.proofs.seats.join_all.Goals as goal
 
 pub join-requires-clause-worker : goal.join-requires-clause-worker

@@ -1,4 +1,4 @@
-use Rattle.std.proofs.Common.{rules, ◌≡◌, ◌<◌, ◌++◌, List, length, sym, subst}
+use Rattle.std.proofs.Common.{rules, ◌<◌, ◌++◌, List, length, sym, subst}
 use Rattle.reflector_serve.specs.Ports.{port_view, OneFails}
 use Rattle.reflector_serve.specs.Served.{desk_view, AreQuiet}
 use Rattle.reflector_serve.proofs.WideFacts.{wide_quiet, wide_fails}
