@@ -4,8 +4,6 @@
 
 mod buffers;
 mod tally;
-#[cfg(test)]
-mod tests;
 mod turning;
 mod working;
 
