@@ -1,6 +1,0 @@
-mod OnceFacts
-mod RoomFacts
-mod UsedFacts
-mod NextFacts
-mod RefusedFacts
-mod Ends
