@@ -19,9 +19,9 @@ bytes_more b l small rest (suc i) = rest i
 
 pub fits_peer : (p : ℕ) → p < 255 → FitsEndpoint (peer p)
 fits_peer p small = record {
-    address = (refl, bytes_more 10 (0 ∷ 0 ∷ (p + 1) ∷ []) (omega arith) (bytes_more 0 (0 ∷ (p + 1) ∷ []) (omega arith) (bytes_more 0 ((p + 1) ∷ []) (omega arith) (bytes_more (p + 1) [] (omega arith) bytes_none))));
-    port = omega arith;
-  }
+  address = (refl, bytes_more 10 (0 ∷ 0 ∷ (p + 1) ∷ []) (omega arith) (bytes_more 0 (0 ∷ (p + 1) ∷ []) (omega arith) (bytes_more 0 ((p + 1) ∷ []) (omega arith) (bytes_more (p + 1) [] (omega arith) bytes_none))));
+  port = omega arith;
+}
 
 pub is_config : IsConfig config
 unfolding are_known_tlvs config
@@ -30,23 +30,23 @@ is_config = record { multiplier = omega arith; scale = omega arith; tlvs = refl 
 pub fits_config : FitsConfig config
 unfolding config
 fits_config = record {
-    is_config = is_config;
-    offset = omega arith;
-    multiplier = omega arith;
-    info = (refl, bytes_more 0 (replicate 3 0) (omega arith) (bytes_more 0 (replicate 2 0) (omega arith) (bytes_more 0 (replicate 1 0) (omega arith) (bytes_more 0 [] (omega arith) bytes_none))));
-    tlvs = omega arith;
-    block = record {};
-  }
+  is_config = is_config;
+  offset = omega arith;
+  multiplier = omega arith;
+  info = (refl, bytes_more 0 (replicate 3 0) (omega arith) (bytes_more 0 (replicate 2 0) (omega arith) (bytes_more 0 (replicate 1 0) (omega arith) (bytes_more 0 [] (omega arith) bytes_none))));
+  tlvs = omega arith;
+  block = record {};
+}
 
 pub fits_opening : (i : ℕ) → i < 8 → Fits (opening i)
 fits_opening i small = record {
-    session = record {
-      key = record { local = omega arith; peer = fits_peer i (omega arith); ssid = omega arith };
-      reflect = omega arith;
-      sound = refl;
-    };
-    config = fits_config;
-  }
+  session = record {
+    key = record { local = omega arith; peer = fits_peer i (omega arith); ssid = omega arith };
+    reflect = omega arith;
+    sound = refl;
+  };
+  config = fits_config;
+}
 
 -- what is taken past a front
 pub take_behind : (front rest : List ℕ) (at n : ℕ) → length front ≡ at → take (at + n) (front ++ rest) ≡ front ++ take n rest
@@ -54,14 +54,14 @@ take_behind front rest at n len = ap (λ (k : ℕ). take (k + n) (front ++ rest)
 
 pub fits_arrival : (e : Endpoint) (arrival : ℕ) (octets : List ℕ) → FitsEndpoint e → arrival < 2 ^ 63 → length octets ≤ 111 → IsBytes octets → Fits (Arrives (datagram_from e arrival octets))
 fits_arrival e arrival octets sender early limit bytes = record {
-    local = omega arith;
-    peer = sender;
-    ttl = record {};
-    arrival = omega (arith, early);
-    t3 = omega (arith, early);
-    octets = bytes;
-    len = omega (arith, limit);
-  }
+  local = omega arith;
+  peer = sender;
+  ttl = record {};
+  arrival = omega (arith, early);
+  t3 = omega (arith, early);
+  octets = bytes;
+  len = omega (arith, limit);
+}
 
 -- ---- which record an index has
 

@@ -17,4 +17,3 @@ first_sender = refl
 first_padding : padding_len (state 0 1) ≡ 59
 unfolding state
 first_padding = refl
-

@@ -35,10 +35,10 @@ config = record { stateful = true; clock = Ntp; offset = 0; synced = false; scal
 
 abbrev pub opening : ℕ → Item
 opening i = Opens (record {
-    key = record { local = 0; peer = peer i; mode = Plain; ssid = i };
-    extra = record { symmetrical = false; reflect = 0 };
-    config = config
-  })
+  key = record { local = 0; peer = peer i; mode = Plain; ssid = i };
+  extra = record { symmetrical = false; reflect = 0 };
+  config = config;
+})
 
 -- ---- the datagrams
 

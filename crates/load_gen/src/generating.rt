@@ -18,6 +18,7 @@ const PORT: u16 = 5000;
 
 /// Nanoseconds between two arrivals, and from an arrival to its reply.
 const BETWEEN_ARRIVALS: u64 = 1_000_000;
+
 const TURN: u64 = 1_000;
 
 /// The session sender of that number.
