@@ -1,11 +1,11 @@
 -- The report of a run (this project's own): a line for each worker, one for the desk and one for the sessions.
 use Rattle.std.specs.Prelude.{ℕ, suc, List, [], ◌∷◌, ◌++◌, codes, decimal}
-use Rattle.report_text.specs.declared.tally.WorkEnd.{WorkEnd}
-use Rattle.report_text.specs.declared.tally.WorkEnd.TheVariants as ends
-use Rattle.report_text.specs.declared.counts.DeskEnd.{DeskEnd}
-use Rattle.report_text.specs.declared.counts.DeskEnd.TheVariants as desk_ends
-use Rattle.report_text.specs.declared.tally.Tally.{Tally}
-use Rattle.report_text.specs.declared.counts.DeskTally.{DeskTally}
+use Rattle.receive_worker.specs.declared.tally.WorkEnd.{WorkEnd}
+use Rattle.receive_worker.specs.declared.tally.WorkEnd.TheVariants as ends
+use Rattle.control_desk.specs.declared.counts.DeskEnd.{DeskEnd}
+use Rattle.control_desk.specs.declared.counts.DeskEnd.TheVariants as desk_ends
+use Rattle.receive_worker.specs.declared.tally.Tally.{Tally}
+use Rattle.control_desk.specs.declared.counts.DeskTally.{DeskTally}
 
 -- words, each followed by a number
 abbrev pub items_text : List (List ℕ × ℕ) → List ℕ

@@ -4,14 +4,11 @@
 ghost use Rattle.std.specs.Prelude.{◌≡◌, ◌++◌, IfOk, map};
 ghost use Rattle.report_text.specs.Report as spec;
 
-mod counts;
-mod tally;
-
-pub use counts::{DeskEnd, DeskTally};
+use control_desk::{DeskEnd, DeskTally};
 use itoa::Buffer;
+use receive_worker::{Tally, WorkEnd};
 use refl_types::Memory;
 use std::alloc::{AllocError, Global};
-pub use tally::{Tally, WorkEnd};
 
 /// Adds words, each followed by a number.
 fn add_items(out: &mut Vec<u8>, items: &[(&str, u64)]) -> Result<(), AllocError>
