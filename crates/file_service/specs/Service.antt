@@ -1,5 +1,5 @@
 -- What serving by a file comes to: what was served, and what was written (this project's own).
-use Rattle.std.specs.Prelude.{◌≡◌, ◌⊎◌, ℕ, ◌<◌, ◌≤◌, List, length, Option, codes}
+use Rattle.std.specs.Prelude.{◌≡◌, ◌⊎◌, ℕ, ◌+◌, ◌-◌, ◌^◌, ◌<◌, ◌≤◌, min, List, length, slice_index_or, Option, codes}
 use Rattle.std.specs.Io.KnownBytes.{Appends, Keeps}
 use Rattle.port_io.specs.Outside.{Rises, AppendsFront}
 use Rattle.port_io.specs.Files as port
@@ -13,10 +13,20 @@ use Rattle.reflector_serve.specs.Served.{DeskView, AreQuiet, HasNotOpened, Serve
 use Rattle.reflector_serve.specs.declared.report.Report.{Report}
 use Rattle.file_service.specs.Ends.{run_end, report_text, port_line, desk_line, TellsEnd}
 
+-- a count of failures has risen, or stands at its last value or behind it
+abbrev pub HasRisen : ℕ → ℕ → Type 0
+HasRisen old new = min (old + 1) (2 ^ 64 - 1) ≤ new
+
+-- a port's count of failures has risen
+pub record OneHasFailed {P S : Type 0} (v : PortView P S) (ps qs : List P) : Type 0 where
+  pub place : ℕ
+  pub inside : place < length ps
+  pub risen : (d : P) → HasRisen (v.faults (slice_index_or ps place d)) (v.faults (slice_index_or qs place d))
+
 -- the report was written whole, and then its end was told, with this status
 pub record WritesReport (report : Report) (status : ℕ) (written written' : Option (List ℕ)) (faults faults' : ℕ) : Type 0 where
   pub reported : Option (List ℕ)
-  pub report : Appends written reported (report_text report)
+  pub whole : Appends written reported (report_text report)
   pub end : TellsEnd (run_end report) status reported written' faults faults'
 
 -- The reflector served by the content of the name, with this report. The content was accepted, with no more workers than ports

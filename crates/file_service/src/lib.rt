@@ -3,6 +3,8 @@
 
 mod ends;
 mod service;
+#[cfg(test)]
+mod tests;
 
 pub use ends::RunEnd;
 pub use service::run_file;
