@@ -29,50 +29,37 @@ pub record WritesReport (report : Report) (status : ℕ) (written written' : Opt
   pub whole : Appends written reported (report_text report)
   pub end : TellsEnd (run_end report) status reported written' faults faults'
 
--- The reflector served by the content of the name, with this report. The content was accepted, with no more workers than ports
-pub record WasServed {P S D T : Type 0} (v : PortView P S) (w : DeskView D T) (files : Option (List port.File)) (name : List ℕ) (ps qs : List P) (d e : D) (report : Report) : Type 0 where
-  pub file : File
-  pub accepted : IsAccepted files name file
-  pub enough : file.workers ≤ length ps
-  pub served : Served v w file ps qs d e report
+-- 0, 9, 10, 11: the reflector served by a file, and the report was written, with the status and the line of its end
+abbrev pub HasServed : {P S D T : Type 0} → PortView P S → DeskView D T → File → List P → List P → D → D → ℕ → Option (List ℕ) → Option (List ℕ) → ℕ → ℕ → Type 0
+HasServed v w f ps qs d e status written written' faults faults' =
+    (report : Report) × Served v w f ps qs d e report × WritesReport report status written written' faults faults'
 
--- 0, 9, 10, 11: the reflector served, and its report was written, with the status and the line of its end
-abbrev pub HasServed : {P S D T : Type 0} → PortView P S → DeskView D T → Option (List port.File) → List ℕ → List P → List P → D → D → ℕ → Option (List ℕ) → Option (List ℕ) → ℕ → ℕ → Type 0
-HasServed v w files name ps qs d e status written written' faults faults' =
-    (report : Report) × WasServed v w files name ps qs d e report × WritesReport report status written written' faults faults'
+-- 8: the reflector served by a file, and a front of the report was written, since a write failed
+abbrev pub HasLostReport : {P S D T : Type 0} → PortView P S → DeskView D T → File → List P → List P → D → D → Option (List ℕ) → Option (List ℕ) → ℕ → ℕ → Type 0
+HasLostReport v w f ps qs d e written written' faults faults' =
+    (report : Report) × Served v w f ps qs d e report × AppendsFront written written' (report_text report) × Rises faults faults'
 
--- 3: the content has more workers than there are ports, which is told; nothing was served
-pub record HasTooFewPorts (files : Option (List port.File)) (name : List ℕ) (count : ℕ) (written written' : Option (List ℕ)) (faults faults' : ℕ) : Type 0 where
-  pub file : File
-  pub accepted : IsAccepted files name file
-  pub few : count < file.workers
-  pub told : WritesLine (fault_line (Limit (codes "workers"))) written written' faults faults'
+-- 4: the reflector served by a file, and there was no memory for the report
+abbrev pub HasNoReport : {P S D T : Type 0} → PortView P S → DeskView D T → File → List P → List P → D → D → Type 0
+HasNoReport v w f ps qs d e = (report : Report) × Served v w f ps qs d e report
 
--- 9: the content was accepted, and a port failed to open, which is told; nothing was received or sent
-pub record HasClosedPort {P S D : Type 0} (v : PortView P S) (files : Option (List port.File)) (name : List ℕ) (ps qs : List P) (d e : D) (written written' : Option (List ℕ)) (faults faults' : ℕ) : Type 0 where
-  pub file : File
-  pub accepted : IsAccepted files name file
-  pub enough : file.workers ≤ length ps
+-- 9: a port failed to open, which was told; nothing was received or sent
+pub record HasClosedPort {P S D : Type 0} (v : PortView P S) (ps qs : List P) (d e : D) (written written' : Option (List ℕ)) (faults faults' : ℕ) : Type 0 where
   pub quiet : AreQuiet v ps qs
   pub fails : OneFails v.faults ps qs
   pub desk : e ≡ d
   pub told : WritesLine port_line written written' faults faults'
 
--- 10: the content was accepted, and the desk failed to open, which is told; nothing was received or sent
-pub record HasClosedDesk {P S D T : Type 0} (v : PortView P S) (w : DeskView D T) (files : Option (List port.File)) (name : List ℕ) (ps qs : List P) (d e : D) (written written' : Option (List ℕ)) (faults faults' : ℕ) : Type 0 where
-  pub file : File
-  pub accepted : IsAccepted files name file
-  pub enough : file.workers ≤ length ps
+-- 10: the desk failed to open, which was told; nothing was received or sent
+pub record HasClosedDesk {P S D T : Type 0} (v : PortView P S) (w : DeskView D T) (ps qs : List P) (d e : D) (written written' : Option (List ℕ)) (faults faults' : ℕ) : Type 0 where
   pub quiet : AreQuiet v ps qs
   pub desk : HasNotOpened w d e
   pub told : WritesLine desk_line written written' faults faults'
 
--- 8: the reflector served, and a front of its report was written, since a write failed
-abbrev pub HasLostReport : {P S D T : Type 0} → PortView P S → DeskView D T → Option (List port.File) → List ℕ → List P → List P → D → D → Option (List ℕ) → Option (List ℕ) → ℕ → ℕ → Type 0
-HasLostReport v w files name ps qs d e written written' faults faults' =
-    (report : Report) × WasServed v w files name ps qs d e report × AppendsFront written written' (report_text report) × Rises faults faults'
+-- 3: there are fewer ports than the file has workers, which is told
+abbrev pub HasTooFewPorts : File → ℕ → Option (List ℕ) → Option (List ℕ) → ℕ → ℕ → Type 0
+HasTooFewPorts f count written written' faults faults' = (count < f.workers) × WritesLine (fault_line (Limit (codes "workers"))) written written' faults faults'
 
--- 4: nothing was written; the ports and the desk are as they were, or the reflector served
-abbrev pub HasNoMemory : {P S D T : Type 0} → PortView P S → DeskView D T → Option (List port.File) → List ℕ → List P → List P → D → D → Option (List ℕ) → Option (List ℕ) → ℕ → ℕ → Type 0
-HasNoMemory v w files name ps qs d e written written' faults faults' =
-    WritesNothing written written' faults faults' × (((qs ≡ ps) × (e ≡ d)) ⊎ ((report : Report) × WasServed v w files name ps qs d e report))
+-- the content of the name was accepted, with no more workers than ports, and this is so of its file
+abbrev pub OfFile : {P : Type 0} → Option (List port.File) → List ℕ → List P → (File → Type 0) → Type 0
+OfFile files name ps R = (f : File) × IsAccepted files name f × (f.workers ≤ length ps) × R f

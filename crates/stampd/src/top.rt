@@ -6,11 +6,13 @@ ghost use Rattle.replay_format.specs.Records.{Item};
 ghost use Rattle.port_io.specs.Outside.{Rises};
 ghost use Rattle.port_io.specs.Files as port;
 ghost use Rattle.port_io.specs.Files.{content};
+ghost use Rattle.conf_text.specs.File.{File};
+ghost use Rattle.conf_check.specs.Loading.{IsAccepted};
 ghost use Rattle.conf_check.specs.Writing.{WritesLine};
 ghost use Rattle.conf_check.specs.Checking.{WasAccepted, WasCutShort, WasFaulty, WasNotLoaded, content_status};
 ghost use Rattle.reflector_serve.specs.Ports.{port_view};
 ghost use Rattle.reflector_serve.specs.Served.{desk_view};
-ghost use Rattle.file_service.specs.Service.{HasServed, HasTooFewPorts, HasClosedPort, HasClosedDesk, HasLostReport, HasNoMemory};
+ghost use Rattle.file_service.specs.Service.{HasServed, HasLostReport, HasNoReport, HasClosedPort, HasClosedDesk, HasTooFewPorts, OfFile};
 ghost use Rattle.stampd.specs.Command.{IsReplay, IsCheck, IsRun, IsAnyCommand, usage};
 ghost use Rattle.stampd.specs.Replay.{IsStream, IsNoStream, IsDone, HasLeft, WasCutOff, WasStopped, IsUntouched};
 
@@ -54,14 +56,14 @@ pub fn stampd<R: Threads + Sync, S: Source, K: Sink, F: Files, P: Port + Send, D
     // served by the file, with this report, which was written.
     ensures done { result ≡ 0 → (IsReplay (map string_bytes words.now) × IsDone (S.left input.old) (S.left input.new) (K.written out.old) (K.written out.new))
         ⊎ ((name : List ℕ) × IsCheck name (map string_bytes words.now) × WasAccepted (F.files files.old) name (K.written out.old) (K.written out.new))
-        ⊎ ((name : List ℕ) × IsRun name (map string_bytes words.now) × HasServed (port_view P.log P.coming P.bound P.made P.faults) (desk_view D.log D.coming D.made D.faults) (F.files files.old) name ports.old ports.new desk.old desk.new 0 (K.written out.old) (K.written out.new) (K.faults out.old) (K.faults out.new)) }
+        ⊎ ((name : List ℕ) × IsRun name (map string_bytes words.now) × OfFile (F.files files.old) name ports.old (λ f. HasServed (port_view P.log P.coming P.bound P.made P.faults) (desk_view D.log D.coming D.made D.faults) f ports.old ports.new desk.old desk.new 0 (K.written out.old) (K.written out.new) (K.faults out.old) (K.faults out.new))) }
     ensures memory { result ≡ 4 → IsUntouched (S.left input.old) (S.left input.new) (K.written out.old) (K.written out.new) }
-    ensures memory_served { result ≡ 4 → (name : List ℕ) → IsRun name (map string_bytes words.now) → HasNoMemory (port_view P.log P.coming P.bound P.made P.faults) (desk_view D.log D.coming D.made D.faults) (F.files files.old) name ports.old ports.new desk.old desk.new (K.written out.old) (K.written out.new) (K.faults out.old) (K.faults out.new) }
+    ensures memory_served { result ≡ 4 → ((ports.new ≡ ports.old) × (desk.new ≡ desk.old))
+        ⊎ ((name : List ℕ) × IsRun name (map string_bytes words.now) × OfFile (F.files files.old) name ports.old (λ f. HasNoReport (port_view P.log P.coming P.bound P.made P.faults) (desk_view D.log D.coming D.made D.faults) f ports.old ports.new desk.old desk.new)) }
 
-    // The text of the file has a fault, and the first is told, or it has more workers than there are ports.
-    ensures faulty { result ≡ 3 → (name : List ℕ) × (IsCheck name (map string_bytes words.now) ⊎ IsRun name (map string_bytes words.now))
-        × (WasFaulty (F.files files.old) name (K.written out.old) (K.written out.new) (K.faults out.old) (K.faults out.new)
-        ⊎ (IsRun name (map string_bytes words.now) × HasTooFewPorts (F.files files.old) name (length ports.old) (K.written out.old) (K.written out.new) (K.faults out.old) (K.faults out.new))) }
+    // The text of the file has a fault, and the first is told; or it has more workers than there are ports.
+    ensures faulty { result ≡ 3 → ((name : List ℕ) × (IsCheck name (map string_bytes words.now) ⊎ IsRun name (map string_bytes words.now)) × WasFaulty (F.files files.old) name (K.written out.old) (K.written out.new) (K.faults out.old) (K.faults out.new))
+        ⊎ ((name : List ℕ) × IsRun name (map string_bytes words.now) × ((f : File) × IsAccepted (F.files files.old) name f × HasTooFewPorts f (length ports.old) (K.written out.old) (K.written out.new) (K.faults out.old) (K.faults out.new))) }
 
     // The file can't be loaded, or it is too long.
     ensures not_loaded { result ≡ 5 → (name : List ℕ) × (IsCheck name (map string_bytes words.now) ⊎ IsRun name (map string_bytes words.now))
@@ -81,20 +83,15 @@ pub fn stampd<R: Threads + Sync, S: Source, K: Sink, F: Files, P: Port + Send, D
     // A write failed: a front of what was due was written.
     ensures output { result ≡ 8 → (IsReplay (map string_bytes words.now) × WasStopped (S.left input.old) (S.left input.new) (K.written out.old) (K.written out.new))
         ⊎ ((name : List ℕ) × IsCheck name (map string_bytes words.now) × WasCutShort (F.files files.old) name (K.written out.old) (K.written out.new))
-        ⊎ ((name : List ℕ) × IsRun name (map string_bytes words.now) × HasLostReport (port_view P.log P.coming P.bound P.made P.faults) (desk_view D.log D.coming D.made D.faults) (F.files files.old) name ports.old ports.new desk.old desk.new (K.written out.old) (K.written out.new) (K.faults out.old) (K.faults out.new)) }
+        ⊎ ((name : List ℕ) × IsRun name (map string_bytes words.now) × OfFile (F.files files.old) name ports.old (λ f. HasLostReport (port_view P.log P.coming P.bound P.made P.faults) (desk_view D.log D.coming D.made D.faults) f ports.old ports.new desk.old desk.new (K.written out.old) (K.written out.new) (K.faults out.old) (K.faults out.new))) }
     ensures write_fault { result ≡ 8 → Rises (K.faults out.old) (K.faults out.new) }
     ensures no_write_fault { (result ≡ 0) ⊎ (result ≡ 4) ⊎ (result ≡ 6) ⊎ (result ≡ 7) → K.faults out.new ≡ K.faults out.old }
 
     // A port failed to open, or failed too often in a row; the desk did; a worker or the desk made as many calls as the file
     // lets it. Where the reflector served, its report was written before the line.
-    ensures port_failed { result ≡ 9 → (name : List ℕ) × IsRun name (map string_bytes words.now)
-        × (HasClosedPort (port_view P.log P.coming P.bound P.made P.faults) (F.files files.old) name ports.old ports.new desk.old desk.new (K.written out.old) (K.written out.new) (K.faults out.old) (K.faults out.new)
-        ⊎ HasServed (port_view P.log P.coming P.bound P.made P.faults) (desk_view D.log D.coming D.made D.faults) (F.files files.old) name ports.old ports.new desk.old desk.new 9 (K.written out.old) (K.written out.new) (K.faults out.old) (K.faults out.new)) }
-    ensures desk_failed { result ≡ 10 → (name : List ℕ) × IsRun name (map string_bytes words.now)
-        × (HasClosedDesk (port_view P.log P.coming P.bound P.made P.faults) (desk_view D.log D.coming D.made D.faults) (F.files files.old) name ports.old ports.new desk.old desk.new (K.written out.old) (K.written out.new) (K.faults out.old) (K.faults out.new)
-        ⊎ HasServed (port_view P.log P.coming P.bound P.made P.faults) (desk_view D.log D.coming D.made D.faults) (F.files files.old) name ports.old ports.new desk.old desk.new 10 (K.written out.old) (K.written out.new) (K.faults out.old) (K.faults out.new)) }
-    ensures budget_spent { result ≡ 11 → (name : List ℕ) × IsRun name (map string_bytes words.now)
-        × HasServed (port_view P.log P.coming P.bound P.made P.faults) (desk_view D.log D.coming D.made D.faults) (F.files files.old) name ports.old ports.new desk.old desk.new 11 (K.written out.old) (K.written out.new) (K.faults out.old) (K.faults out.new) }
+    ensures port_failed { result ≡ 9 → (name : List ℕ) × IsRun name (map string_bytes words.now) × OfFile (F.files files.old) name ports.old (λ f. HasClosedPort (port_view P.log P.coming P.bound P.made P.faults) ports.old ports.new desk.old desk.new (K.written out.old) (K.written out.new) (K.faults out.old) (K.faults out.new) ⊎ HasServed (port_view P.log P.coming P.bound P.made P.faults) (desk_view D.log D.coming D.made D.faults) f ports.old ports.new desk.old desk.new 9 (K.written out.old) (K.written out.new) (K.faults out.old) (K.faults out.new)) }
+    ensures desk_failed { result ≡ 10 → (name : List ℕ) × IsRun name (map string_bytes words.now) × OfFile (F.files files.old) name ports.old (λ f. HasClosedDesk (port_view P.log P.coming P.bound P.made P.faults) (desk_view D.log D.coming D.made D.faults) ports.old ports.new desk.old desk.new (K.written out.old) (K.written out.new) (K.faults out.old) (K.faults out.new) ⊎ HasServed (port_view P.log P.coming P.bound P.made P.faults) (desk_view D.log D.coming D.made D.faults) f ports.old ports.new desk.old desk.new 10 (K.written out.old) (K.written out.new) (K.faults out.old) (K.faults out.new)) }
+    ensures budget_spent { result ≡ 11 → (name : List ℕ) × IsRun name (map string_bytes words.now) × OfFile (F.files files.old) name ports.old (λ f. HasServed (port_view P.log P.coming P.bound P.made P.faults) (desk_view D.log D.coming D.made D.faults) f ports.old ports.new desk.old desk.new 11 (K.written out.old) (K.written out.new) (K.faults out.old) (K.faults out.new)) }
 
     // Where nothing fails, a stream is answered, what is none is told so, and of a file its content alone decides.
     ensures complete { (octets : List ℕ) (records : List Item) → S.left input.old ≡ Some octets → IsStream octets records → IsReplay (map string_bytes words.now)
