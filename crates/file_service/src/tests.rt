@@ -92,7 +92,7 @@ fn is_answered(rt: HostRuntime, case: &Case) -> Result<(), Fail> {
         100,
     )?;
     let status = run_file(
-        &rt, alloc, NAME, &mut files, &mut out, &mut ports, &mut desk,
+        &rt, alloc, NAME, &mut files, &mut out, ports.as_mut_slice(), &mut desk,
     );
     assert_eq!(rt; status, case.status);
     assert_eq!(rt; out.written(), case.written);
@@ -273,7 +273,7 @@ fn four_workers_answer_the_datagrams_of_forty_sessions(rt: HostRuntime) -> Resul
         100,
     )?;
     let status = run_file(
-        &rt, alloc, NAME, &mut files, &mut out, &mut ports, &mut desk,
+        &rt, alloc, NAME, &mut files, &mut out, ports.as_mut_slice(), &mut desk,
     );
     assert_eq!(rt; status, 0);
     assert_eq!(rt; out.written(), OPERATORS_REPORT);

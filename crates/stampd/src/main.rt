@@ -58,7 +58,7 @@ fn run(rt: HostRuntime) -> Result<u8, Memory> {
     let mut ports = make_ports(rt, alloc, &ends)?;
     let mut desk = TcpDesk::make(rt, alloc, &ends)?;
     Ok(stampd(
-        &rt, alloc, &words, &mut input, &mut out, &mut files, &mut ports, &mut desk,
+        &rt, alloc, &words, &mut input, &mut out, &mut files, ports.as_mut_slice(), &mut desk,
     ))
 }
 

@@ -239,7 +239,7 @@ fn run_serves_by_a_file_and_other_words_leave_the_ports_alone(
         )?;
         let words = words(alloc, texts)?;
         let got = stampd(
-            &rt, alloc, &words, &mut input, &mut out, &mut files, &mut ports, &mut desk,
+            &rt, alloc, &words, &mut input, &mut out, &mut files, ports.as_mut_slice(), &mut desk,
         );
         assert_eq!(rt; got, status, "of {texts:?}");
         assert_eq!(rt; out.written(), written, "of {texts:?}");
