@@ -30,6 +30,7 @@ use std::thread::Threads;
 /// until all have ended, and writes the report: 0 where each worker and the desk came to their end, 9 where a port failed, 10
 /// where the desk did, and 11 where a budget was spent; 3 for a fault of the file or too few ports, 4 for want of memory, 5
 /// where the file wasn't loaded, and 8 where the report wasn't written. All other words are those of `offline`.
+#[tactic(auto, using(crate::proofs::Commands::replay_run, crate::proofs::Commands::check_run))]
 pub fn stampd<R: Threads + Sync, S: Source, K: Sink, F: Files, P: Port + Send, D: Desk>(
     rt: &R,
     alloc: Global,
