@@ -1,4 +1,4 @@
--- What the text of a configuration file stands for, or its first fault (this project's own; TOML 1.0 as the toolchain's `toml` reads it).
+-- What the text of a configuration file stands for, or its first fault (this project's own; TOML 1.1, as the crate `toml` reads it).
 use Rattle.std.specs.Prelude.{◌≡◌, ℕ, ◌-◌, ◌^◌, Bool, false, ◌&&◌, if◌then◌else◌, List, [], ◌∷◌, ◌++◌, length, Option, Some, None, Result, Ok, Err, codes, is_some}
 use Rattle.std.specs.Str.{is_utf8}
 use Rattle.std.specs.List.{list_any}

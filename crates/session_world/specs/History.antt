@@ -1,5 +1,5 @@
 -- The one-thread table of sessions and its legal histories (this project's own; sessions, and the sequence numbers that a
--- stateful reflector counts for each, are those of RFC 8762, section 4.2). The latest event comes first. C is what names a configuration.
+-- stateful reflector counts for each, are those of RFC 8762, section 4). The latest event comes first. C is what names a configuration.
 use Rattle.std.specs.Prelude.{◌≡◌, ℕ, suc, ◌<◌, ◌%◌, ◌^◌, Bool, true, false, if◌then◌else◌, List, [], ◌∷◌, Option, Some, None}
 use Rattle.refl_types.specs.Same.{same_key}
 use Rattle.refl_types.specs.Keys.{is_sound}
