@@ -1,0 +1,199 @@
+//! What the messages of a control connection do.
+
+ghost use Rattle.std.specs.Prelude.{◌≡◌, ◌≤◌, [], ◌∷◌, List, length, drop, IsTrue, if◌then◌else◌};
+ghost use Rattle.twamp_control.specs.Connection.{unless_hung_up};
+ghost use Rattle.twamp_control.specs.Table.{ask_of, fits};
+ghost use Rattle.session_rule.specs.declared.seats.Table.{Table};
+ghost use Rattle.session_desk.specs.Book.{Book, IsBookOf};
+ghost use Rattle.control_desk.specs.declared.sides.ControlSide.{ControlSide as DeclaredSide};
+ghost use Rattle.control_desk.specs.State.{Setting};
+ghost use Rattle.control_desk.specs.Plan.{Plan, Follows};
+ghost use Rattle.control_desk.specs.Control.{send_some, reply_plan, message_plan, control_plan};
+
+use crate::counts::Counts;
+use crate::own_calls::{hang_up_control, start_sessions, stop_sessions};
+use crate::requests::reserve_session;
+use crate::shown::Shown;
+use crate::sides::ControlSide;
+use refl_types::{Config, LocalAddr};
+use session_desk::DeskBook;
+use session_rule::Table;
+use twamp_control::{Ask, DeskAnswer, Message, Stage};
+
+/// Sends octets, if there are any. Whether they were sent.
+fn send_some<D: Shown>(desk: &mut D, counts: &mut Counts, conn: u32, octets: &[u8]) -> bool
+    ensures { (t : Table) (sent failed : Plan) (b : Book) →
+        Follows t (send_some conn octets.now sent failed) (if result then sent else failed) (D.shown desk.old) (D.shown desk.new) b b counts.old counts.new }
+{
+    match octets {
+        [] => true,
+        [_, ..] => desk.tell(counts, conn, octets),
+    }
+}
+
+/// The stage in which the connection's sessions are, where its own was `before` and is `after`.
+fn stage_behind(before: Stage, after: Stage) -> Stage
+    ensures { result ≡ unless_hung_up after before after }
+{
+    match after {
+        Stage::HungUp => before,
+        Stage::SettingUp | Stage::Idle | Stage::Started => after,
+    }
+}
+
+/// Sends the reply to a message, if it has one, and hangs the connection up where the table says so, or where the reply
+/// couldn't be sent. Whether the connection goes on.
+fn reply<D: Shown>(
+    table: &Table,
+    book: &mut DeskBook,
+    desk: &mut D,
+    counts: &mut Counts,
+    conn: u32,
+    now: u64,
+    side: &mut ControlSide,
+    message: &Message,
+    answer: &DeskAnswer,
+) -> bool
+    requires book { IsBookOf table.now book.old }
+    requires fits { IsTrue (fits (ask_of side.old.machine message.now) answer.now) }
+    ensures book { IsBookOf table.now book.new }
+    ensures done { (more : DeclaredSide → Plan) (gone : Plan) →
+        Follows table.now (reply_plan conn now more gone message.now side.old answer.now) (if result then more side.new else gone) (D.shown desk.old) (D.shown desk.new) book.old book.new counts.old counts.new }
+{
+    let before = side.machine.stage();
+    let mut out = [0; 64];
+    let stepped = side.machine.step(message, answer, now, &mut out);
+    let stage = stage_behind(before, side.machine.stage());
+    if !send_some(desk, counts, conn, &out[..stepped.len]) {
+        hang_up_control(table, book, desk, counts, conn, stage, side.sessions.list());
+        return false;
+    }
+    if stepped.hang_up {
+        hang_up_control(table, book, desk, counts, conn, stage, side.sessions.list());
+        return false;
+    }
+    true
+}
+
+/// Does what a message asks, and replies. Whether the connection goes on.
+fn hear_message<D: Shown>(
+    locals: &[LocalAddr],
+    twamp: &Option<Config>,
+    table: &Table,
+    book: &mut DeskBook,
+    desk: &mut D,
+    counts: &mut Counts,
+    conn: u32,
+    now: u64,
+    side: &mut ControlSide,
+    message: &Message,
+) -> bool
+    requires book { IsBookOf table.now book.old }
+    requires few { length locals.now ≤ 16 }
+    ensures book { IsBookOf table.now book.new }
+    ensures done { (f : Setting) (more : DeclaredSide → Plan) (gone : Plan) → f.locals ≡ locals.now → f.twamp ≡ twamp.now →
+        Follows table.now (message_plan f conn now more gone side.old (message.now ∷ [])) (if result then more side.new else gone) (D.shown desk.old) (D.shown desk.new) book.old book.new counts.old counts.new }
+{
+    match side.machine.ask(message) {
+        Ask::Reserve(request) => {
+            let answer = reserve_session::<D>(locals, twamp, table, book, side, &request);
+            reply(table, book, desk, counts, conn, now, side, message, &answer)
+        }
+        Ask::StartAll => {
+            start_sessions::<D>(table, book, now, side.sessions.list());
+            reply(
+                table,
+                book,
+                desk,
+                counts,
+                conn,
+                now,
+                side,
+                message,
+                &DeskAnswer::Done,
+            )
+        }
+        Ask::StopAll { .. } => {
+            let current = side.machine.stage();
+            stop_sessions::<D>(table, book, now, current, side.sessions.list());
+            side.sessions.clear();
+            reply(
+                table,
+                book,
+                desk,
+                counts,
+                conn,
+                now,
+                side,
+                message,
+                &DeskAnswer::Done,
+            )
+        }
+        Ask::Nothing => reply(
+            table,
+            book,
+            desk,
+            counts,
+            conn,
+            now,
+            side,
+            message,
+            &DeskAnswer::Done,
+        ),
+        Ask::HangUp => reply(
+            table,
+            book,
+            desk,
+            counts,
+            conn,
+            now,
+            side,
+            message,
+            &DeskAnswer::Done,
+        ),
+    }
+}
+
+/// The octets from a place on.
+fn rest_of(octets: &[u8], at: usize) -> &[u8]
+    requires { at ≤ length octets.now }
+    ensures { result.now ≡ drop at octets.now }
+{
+    &octets[at..]
+}
+
+/// Takes octets of a control connection, until it is hung up. Whether it goes on.
+pub(crate) fn hear_control<D: Shown>(
+    locals: &[LocalAddr],
+    twamp: &Option<Config>,
+    table: &Table,
+    book: &mut DeskBook,
+    desk: &mut D,
+    counts: &mut Counts,
+    conn: u32,
+    now: u64,
+    side: &mut ControlSide,
+    octets: &[u8],
+) -> bool
+    requires book { IsBookOf table.now book.old }
+    requires few { length locals.now ≤ 16 }
+    ensures book { IsBookOf table.now book.new }
+    ensures done { (f : Setting) (more : DeclaredSide → Plan) (gone : Plan) → f.locals ≡ locals.now → f.twamp ≡ twamp.now →
+        Follows table.now (control_plan f conn now more gone side.old octets.now) (if result then more side.new else gone) (D.shown desk.old) (D.shown desk.new) book.old book.new counts.old counts.new }
+{
+    let mut at = 0;
+    while at < octets.len() {
+        side.heard = now;
+        let (taken, maybe) = side.machine.feed(rest_of(octets, at));
+        at += taken;
+        let Some(message) = maybe else {
+            return true;
+        };
+        if !hear_message(
+            locals, twamp, table, book, desk, counts, conn, now, side, &message,
+        ) {
+            return false;
+        }
+    }
+    true
+}

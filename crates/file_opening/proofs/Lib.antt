@@ -1,0 +1,6 @@
+mod OnceFacts
+mod RoomFacts
+mod UsedFacts
+mod NextFacts
+mod RefusedFacts
+mod Ends

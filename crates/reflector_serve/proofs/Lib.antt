@@ -1,0 +1,12 @@
+mod PhaseFacts
+mod SeatFacts
+mod SplitFacts
+mod JoinFacts
+mod PortFacts
+mod LiveFacts
+mod HalfFacts
+mod QuietFacts
+mod RunFacts
+mod BeginFacts
+mod WideFacts
+mod WholeFacts

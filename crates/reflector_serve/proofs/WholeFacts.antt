@@ -1,0 +1,99 @@
+-- All parts of a run.
+use Rattle.std.proofs.Common.{◌≡◌, ℕ, List, [], ◌∷◌, ◌++◌, length, Result, Ok, Err, IfOk, sym, ◌∙◌, subst}
+use Rattle.net_io.specs.Log.{Grows}
+use Rattle.net_io.specs.Port.{read}
+use Rattle.net_io.specs.Desk.{opened}
+use Rattle.session_world.specs.Rows.{RowsStay}
+use Rattle.session_rule.specs.declared.seats.Table.{Table}
+use Rattle.session_rule.specs.Seats.{size_of, joined_parts}
+use Rattle.session_desk.specs.Book.{Book, steps_of}
+use Rattle.session_desk.specs.Fits.{BookFits}
+use Rattle.conf_text.specs.File.{File}
+use Rattle.file_opening.specs.Opened.{IsNewBook, HasOpened}
+use Rattle.control_desk.specs.State.{Room}
+use Rattle.control_desk.specs.Connections.{first_room}
+use Rattle.reflector_serve.specs.declared.report.Report.{Report}
+use Rattle.reflector_serve.specs.declared.report.ServeFault.{ServeFault}
+use Rattle.control_desk.specs.Faults.{AreFaultsTold}
+use Rattle.control_desk.specs.Run.{HasRun}
+use Rattle.reflector_serve.specs.Ports.{PortView, IsBound, Each, FirstTold}
+use Rattle.reflector_serve.specs.Phases.{KeepsAllElse}
+use Rattle.file_opening.specs.Opened.{size_in}
+use Rattle.reflector_serve.specs.Served.{DeskView, Served}
+use Rattle.reflector_serve.specs.Running.{HasServed}
+use Rattle.reflector_serve.proofs.BeginFacts.{begins}
+use Rattle.reflector_serve.proofs.QuietFacts.{all_opening}
+use Rattle.reflector_serve.proofs.WideFacts.{wide_served}
+
+-- ---- the whole
+
+-- how the desk was opened
+pub record IsReady {D S : Type 0} (v : DeskView D S) (f : File) (d e : D) : Type 0 where
+  pub log : Grows (v.log d) (v.log e) (opened f.control f.operator ∷ [])
+  pub made : v.made e ≡ v.made d
+  pub still : v.faults e ≡ v.faults d
+
+module _ {P S D T : Type 0} (v : PortView P S) (w : DeskView D T) (t : Table) (f : File) (room : Room) (moment : ℕ) (ps ts os qs : List P) (d r e : D) (before b split c : Book) (report : Report) where
+  pub whole_served : size_of t ≡ size_in f → IsNewBook t f before → HasOpened t f moment before b → BookFits b → RowsStay → KeepsAllElse b split → room ≡ first_room f
+      → FirstTold v moment ps ts → Each (IsBound v f.locals) ts os → length ps ≡ f.workers → IsReady w f d r
+      → HasServed v w t f room (steps_of b) os qs r e split c report → Served v w f ps qs d e report
+  whole_served size new h fits stay kept is_room told each many ready hs = record {
+    table = t;
+    size = size;
+    moment = moment;
+    before = before;
+    new = new;
+    at_first = b;
+    openings = h;
+    at_split = split;
+    splits = kept;
+    at_end = hs.at_end;
+    desk = record {
+      ready = r;
+      opening = ready.log;
+      ran = subst (λ (x : Room). HasRun t x.setting f.turns x.state (w.log r) (w.log e) split hs.at_end report.desk) is_room hs.desk.ran;
+      made = hs.desk.made ∙ ready.made;
+      faults = subst (λ (n : ℕ). AreFaultsTold n (w.faults e) report.desk.faults) ready.still hs.desk.faults;
+    };
+    joined = c;
+    joins = hs.joins;
+    answers = hs.answers;
+    lists = hs.lists;
+    workers = hs.workers ∙ each.len ∙ told.len ∙ many;
+    one = hs.one;
+    begins = begins t (size_of t) f moment before b c (joined_parts c.seat) hs.lists h fits stay hs.one hs.grew;
+    ports = hs.ports ps (read moment ∷ []) (all_opening v moment ps ts os told f.locals each);
+    live = hs.live;
+    live_count = hs.live_count;
+  }
+
+-- further ports
+pub wide : {P S D T : Type 0} (v : PortView P S) (w : DeskView D T) (f : File) (ps qs rest : List P) (d e : D) (report : Report) → Served v w f ps qs d e report → Served v w f (ps ++ rest) (qs ++ rest) d e report
+wide v w f ps qs rest d e report s = record {
+  table = s.table;
+  size = s.size;
+  moment = s.moment;
+  before = s.before;
+  new = s.new;
+  at_first = s.at_first;
+  openings = s.openings;
+  at_split = s.at_split;
+  splits = s.splits;
+  at_end = s.at_end;
+  desk = s.desk;
+  joined = s.joined;
+  joins = s.joins;
+  answers = s.answers;
+  lists = s.lists;
+  workers = s.workers;
+  one = s.one;
+  begins = s.begins;
+  ports = wide_served v s.table f _ (read s.moment ∷ []) ps qs rest s.lists report.workers.items s.ports;
+  live = s.live;
+  live_count = s.live_count;
+}
+
+pub wide_ok : {P S D T : Type 0} (v : PortView P S) (w : DeskView D T) (f : File) (all ps qs rest : List P) (d e : D) (r : Result Report ServeFault) → all ≡ ps ++ rest
+    → IfOk r (λ y. Served v w f ps qs d e y) → IfOk r (λ y. Served v w f all (qs ++ rest) d e y)
+wide_ok {P} v w f all ps qs rest d e (Ok y) split s = subst (λ (xs : List P). Served v w f xs (qs ++ rest) d e y) (sym split) (wide v w f ps qs rest d e y s)
+wide_ok v w f all ps qs rest d e (Err x) split s = tt

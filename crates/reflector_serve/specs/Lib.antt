@@ -1,0 +1,7 @@
+pub mod Ports
+pub mod Posts
+pub mod Phases
+pub mod Live
+pub mod Served
+pub mod Opening
+pub mod Running

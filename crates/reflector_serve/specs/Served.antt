@@ -1,0 +1,131 @@
+-- One run of the reflector, from the opening to the last join (this project's own).
+use Rattle.std.specs.Prelude.{◌≡◌, ℕ, ◌+◌, List, [], ◌∷◌, ◌++◌, length, map, reverse, Option}
+use Rattle.refl_types.specs.declared.config.ConfigParts.{ConfigParts}
+use Rattle.net_io.specs.Log.{Grows}
+use Rattle.net_io.specs.Port.{PortEntry, read}
+use Rattle.net_io.specs.Desk.{DeskEntry, opened, open_failed}
+use Rattle.port_io.specs.Outside.{Rises}
+use Rattle.session_world.specs.declared.steps.Step.{Step}
+use Rattle.session_world.specs.Desk.{config_at}
+use Rattle.session_world.specs.Answers.{opened as opened_by}
+use Rattle.session_world.specs.History.{Event}
+use Rattle.session_world.specs.Joined.{OneHistory}
+use Rattle.session_rule.specs.declared.seats.Table.{Table}
+use Rattle.session_rule.specs.Seats.{size_of, joined_parts}
+use Rattle.session_desk.specs.Book.{Book, steps_of, answers_of}
+use Rattle.conf_text.specs.declared.sessions.Provided.{Provided}
+use Rattle.conf_text.specs.File.{File}
+use Rattle.file_opening.specs.Opened.{size_in, IsNewBook, HasOpened}
+use Rattle.receive_worker.specs.declared.tally.Tally.{Tally}
+use Rattle.receive_worker.specs.Faults.{RisesBy}
+use Rattle.receive_worker.specs.Accounts.{Accounts}
+use Rattle.receive_worker.specs.Work.{Round, HasWorked}
+use Rattle.control_desk.specs.State.{setting_of, first_state}
+use Rattle.control_desk.specs.Faults.{AreFaultsTold}
+use Rattle.control_desk.specs.Run.{HasRun}
+use Rattle.reflector_serve.specs.Ports.{PortView}
+use Rattle.reflector_serve.specs.Phases.{KeepsAllElse}
+use Rattle.reflector_serve.specs.Live.{AreBound}
+use Rattle.control_desk.specs.declared.counts.DeskTally.{DeskTally}
+use Rattle.reflector_serve.specs.declared.report.Report.{Report}
+
+-- the opening of a session of the file
+abbrev pub opening_event : Provided → Event ConfigParts
+opening_event s = record { by = 0; answer = opened_by s.key s.extra s.config }
+
+-- ---- ports
+
+-- nothing was received or sent, and the log has just these entries more
+pub record IsQuiet {P S : Type 0} (v : PortView P S) (told : List PortEntry) (p q : P) : Type 0 where
+  pub log : Grows (v.log p) (v.log q) told
+  pub coming : v.coming q ≡ v.coming p
+  pub made : v.made q ≡ v.made p
+
+-- the first port as one relation says, and all others as another
+abbrev pub AllPorts : {P : Type 0} → (P → P → Type 0) → (P → P → Type 0) → List P → List P → Type 0
+AllPorts First Rest [] qs = qs ≡ []
+AllPorts First Rest (p ∷ ps) (q ∷ qs) = First p q × AllPorts Rest Rest ps qs
+AllPorts First Rest (p ∷ ps) [] = ⊥
+
+-- the first port told a moment, and nothing was received or sent at any
+pub record AreQuiet {P S : Type 0} (v : PortView P S) (ps qs : List P) : Type 0 where
+  pub moment : ℕ
+  pub quiet : AllPorts (IsQuiet v (read moment ∷ [])) (IsQuiet v []) ps qs
+
+-- A worker served at the port. At the opening the port told these entries and was bound to the file's local addresses. Then the
+-- worker went through its rounds: its list of steps gave their answers, under these configurations, and the port's log tells them
+pub record IsServed {P S : Type 0} (v : PortView P S) (t : Table) (f : File) (config : ℕ → ConfigParts) (told : List PortEntry) (p q : P) (xs : List Step) (tally : Tally) : Type 0 where
+  pub opened : P
+  pub opening : IsQuiet v told p opened
+  pub rounds : List Round
+  pub worked : HasWorked config (size_of t) f.locals f.limit f.turns rounds [] xs (v.log opened) (v.log q) tally
+  pub accounts : Accounts (size_of t).slots [] xs tally
+  pub bound : v.bound q ≡ f.locals
+  pub made : v.made q ≡ v.made p
+  pub faults : RisesBy (tally.recv_fault + tally.send_fault) (v.faults p) (v.faults q)
+
+-- the workers served at the first ports, each in its place, with these lists of steps and these tallies; all other ports are as
+-- they were
+abbrev pub AllServed : {P S : Type 0} → PortView P S → Table → File → (ℕ → ConfigParts) → List PortEntry → List P → List P → List (List Step) → List Tally → Type 0
+AllServed v t f config told ps qs [] [] = qs ≡ ps
+AllServed v t f config told (p ∷ ps) (q ∷ qs) (xs ∷ lists) (y ∷ ys) = IsServed v t f config told p q xs y × AllServed v t f config [] ps qs lists ys
+AllServed v t f config told ps qs lists ys = ⊥
+
+-- ---- the desk
+
+-- what desks of the type D tell of themselves
+pub record DeskView (D S : Type 0) : Type 0 where
+  pub log : D → Option (List DeskEntry)
+  pub coming : D → Option (List DeskEntry)
+  pub made : D → S
+  pub faults : D → ℕ
+
+abbrev pub desk_view : {D S : Type 0} → (D → Option (List DeskEntry)) → (D → Option (List DeskEntry)) → (D → S) → (D → ℕ) → DeskView D S
+desk_view log coming made faults = record { log = log; coming = coming; made = made; faults = faults }
+
+-- the desk failed to open, and nothing else happened at it
+pub record HasNotOpened {D S : Type 0} (v : DeskView D S) (d e : D) : Type 0 where
+  pub log : Grows (v.log d) (v.log e) (open_failed ∷ [])
+  pub coming : v.coming e ≡ v.coming d
+  pub made : v.made e ≡ v.made d
+  pub faults : Rises (v.faults d) (v.faults e)
+
+-- The desk was opened at the file's addresses for control connections and operators. Then it ran over the book, and its log tells it
+pub record IsRun {D S : Type 0} (v : DeskView D S) (t : Table) (f : File) (d e : D) (b c : Book) (tally : DeskTally) : Type 0 where
+  pub ready : D
+  pub opening : Grows (v.log d) (v.log ready) (opened f.control f.operator ∷ [])
+  pub ran : HasRun t (setting_of f) f.turns (first_state f) (v.log ready) (v.log e) b c tally
+  pub made : v.made e ≡ v.made d
+  pub faults : AreFaultsTold (v.faults d) (v.faults e) tally.faults
+
+-- ---- the whole
+
+-- One legal history explains the schedule of all steps on one table, and has the answers of the desk and of all workers.
+-- `openings`: before any worker was split off, the file's sessions were opened at the moment that the first port told, each
+--   with its wait, and `twamp` had its row.
+-- `begins`: the history begins with the openings of these sessions, in their order.
+-- `desk`: the desk ran from the book with these sessions; the book's answers are the desk's events (`answers`, `one`).
+-- `ports`: each worker served at its port, and its answers are its events (`one`); there are as many workers as the file says.
+-- `live`: as many keys are left bound as the report tells
+pub record Served {P S D T : Type 0} (v : PortView P S) (w : DeskView D T) (f : File) (ps qs : List P) (d e : D) (report : Report) : Type 0 where
+  pub table : Table
+  pub size : size_of table ≡ size_in f
+  pub moment : ℕ
+  pub before : Book
+  pub new : IsNewBook table f before
+  pub at_first : Book
+  pub openings : HasOpened table f moment before at_first
+  pub at_split : Book
+  pub splits : KeepsAllElse at_first at_split
+  pub at_end : Book
+  pub desk : IsRun w table f d e at_split at_end report.desk
+  pub joined : Book
+  pub joins : KeepsAllElse at_end joined
+  pub answers : answers_of joined ≡ answers_of at_end
+  pub lists : List (List Step)
+  pub workers : length lists ≡ f.workers
+  pub one : OneHistory (size_of table) (steps_of at_first) (steps_of joined) (joined_parts joined.seat) lists
+  pub begins : (later : List (Event ConfigParts)) × (one.history ≡ later ++ map opening_event (reverse f.sessions))
+  pub ports : AllServed v table f (config_at (steps_of joined)) (read moment ∷ []) ps qs lists report.workers.items
+  pub live : AreBound one.history (map (λ s. s.key) joined.live)
+  pub live_count : report.live ≡ length joined.live
