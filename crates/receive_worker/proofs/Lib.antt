@@ -2,3 +2,4 @@ pub mod GrowthFacts
 pub mod TurnFacts
 pub mod AccountFacts
 pub mod RoundFacts
+pub mod StageFacts

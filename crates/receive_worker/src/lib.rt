@@ -4,6 +4,8 @@
 
 mod buffers;
 mod tally;
+#[cfg(test)]
+mod tests;
 mod turning;
 mod working;
 

@@ -6,7 +6,7 @@ use Rattle.net_io.specs.Desk.{opened}
 use Rattle.session_world.specs.Rows.{RowsStay}
 use Rattle.session_rule.specs.declared.seats.Table.{Table}
 use Rattle.session_rule.specs.Seats.{size_of, joined_parts}
-use Rattle.session_desk.specs.Book.{Book, steps_of}
+use Rattle.session_desk.specs.Book.{Book, steps_of, answers_of}
 use Rattle.session_desk.specs.Fits.{BookFits}
 use Rattle.conf_text.specs.File.{File}
 use Rattle.file_opening.specs.Opened.{IsNewBook, HasOpened}
@@ -34,10 +34,10 @@ pub record IsReady {D S : Type 0} (v : DeskView D S) (f : File) (d e : D) : Type
   pub still : v.faults e ≡ v.faults d
 
 module _ {P S D T : Type 0} (v : PortView P S) (w : DeskView D T) (t : Table) (f : File) (room : Room) (moment : ℕ) (ps ts os qs : List P) (d r e : D) (before b split c : Book) (report : Report) where
-  pub whole_served : size_of t ≡ size_in f → IsNewBook t f before → HasOpened t f moment before b → BookFits b → RowsStay → KeepsAllElse b split → room ≡ first_room f
+  pub whole_served : size_of t ≡ size_in f → IsNewBook t f before → HasOpened t f moment before b → BookFits b → RowsStay → KeepsAllElse b split → answers_of split ≡ answers_of b → room ≡ first_room f
       → FirstTold v moment ps ts → Each (IsBound v f.locals) ts os → length ps ≡ f.workers → IsReady w f d r
       → HasServed v w t f room (steps_of b) os qs r e split c report → Served v w f ps qs d e report
-  whole_served size new h fits stay kept is_room told each many ready hs = record {
+  whole_served size new h fits stay kept no_more is_room told each many ready hs = record {
     table = t;
     size = size;
     moment = moment;
@@ -47,6 +47,7 @@ module _ {P S D T : Type 0} (v : PortView P S) (w : DeskView D T) (t : Table) (f
     openings = h;
     at_split = split;
     splits = kept;
+    no_more = no_more;
     at_end = hs.at_end;
     desk = record {
       ready = r;
@@ -79,6 +80,7 @@ wide v w f ps qs rest d e report s = record {
   openings = s.openings;
   at_split = s.at_split;
   splits = s.splits;
+  no_more = s.no_more;
   at_end = s.at_end;
   desk = s.desk;
   joined = s.joined;

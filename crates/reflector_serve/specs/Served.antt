@@ -104,7 +104,8 @@ pub record IsRun {D S : Type 0} (v : DeskView D S) (t : Table) (f : File) (d e :
 -- `openings`: before any worker was split off, the file's sessions were opened at the moment that the first port told, each
 --   with its wait, and `twamp` had its row.
 -- `begins`: the history begins with the openings of these sessions, in their order.
--- `desk`: the desk ran from the book with these sessions; the book's answers are the desk's events (`answers`, `one`).
+-- `desk`: the desk ran from the book with these sessions, and gave no answer before it but the openings (`no_more`) and none
+--   after it (`answers`); the book's answers are the desk's events (`one`).
 -- `ports`: each worker served at its port, and its answers are its events (`one`); there are as many workers as the file says.
 -- `live`: as many keys are left bound as the report tells
 pub record Served {P S D T : Type 0} (v : PortView P S) (w : DeskView D T) (f : File) (ps qs : List P) (d e : D) (report : Report) : Type 0 where
@@ -117,6 +118,7 @@ pub record Served {P S D T : Type 0} (v : PortView P S) (w : DeskView D T) (f : 
   pub openings : HasOpened table f moment before at_first
   pub at_split : Book
   pub splits : KeepsAllElse at_first at_split
+  pub no_more : answers_of at_split ≡ answers_of at_first
   pub at_end : Book
   pub desk : IsRun w table f d e at_split at_end report.desk
   pub joined : Book

@@ -11,3 +11,6 @@ mod whole;
 
 pub use report::{Report, ServeFault};
 pub use whole::serve;
+
+#[cfg(test)]
+mod tests;

@@ -60,5 +60,5 @@ returns-clause-served g c =
     subst (λ (x : Option Endpoint). Grows (g.D.Desk.log c.args.desk.now) (g.D.Desk.log c.open.new.self) (opened x f.operator ∷ [])) c.control.ensures.value
     (subst (λ (x : Option Endpoint). Grows (g.D.Desk.log c.args.desk.now) (g.D.Desk.log c.open.new.self) (opened c.control.result x ∷ [])) c.operator.ensures o.log) in
     whole_served v w t f c.in-Ok-make.room moment c.args.ports.now c.read_first-moment.new.ports c.open_ports.new.ports c.serve_split.new.ports c.args.desk.now c.open.new.self c.serve_split.new.desk c.in-Ok.book b c.split_all.new.book c.serve_split.new.book c.serve_split.result
-    c.in-Ok.ensures.size c.in-Ok.ensures.new c.open_sessions.ensures c.law_fits.ensures c.law_rows_stay.ensures c.split_all.ensures.kept c.in-Ok-make.ensures c.read_first-moment.ensures each c.requires
+    c.in-Ok.ensures.size c.in-Ok.ensures.new c.open_sessions.ensures c.law_fits.ensures c.law_rows_stay.ensures c.split_all.ensures.kept phase.gave c.in-Ok-make.ensures c.read_first-moment.ensures each c.requires
     (record { log = log; made = o.made; still = o.still }) (c.serve_split.ensures (steps_of b) (steps_of b) phase)

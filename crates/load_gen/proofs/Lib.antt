@@ -1,0 +1,3 @@
+pub mod StateFacts
+pub mod RecordFacts
+pub mod Samples
