@@ -20,14 +20,9 @@ use Rattle.receive_worker.specs.Faults.{RisesBy}
 use Rattle.receive_worker.specs.Tally.{no_tally, with_begun}
 use Rattle.receive_worker.specs.Work.{Round, kind_of, with_round, tally_after, Progress, at_first, progress_by, progress, progress_after, due, due_by, is_over, EndsBy, IsEnd}
 use Rattle.reflector_serve.specs.Ports.{PortView, OneFails}
-use Rattle.reflector_serve.specs.declared.report.Report.{Report}
-use Rattle.reflector_serve.specs.Served.{DeskView, IsServed, AllServed, Served}
-use Rattle.control_desk.specs.declared.counts.DeskEnd.{DeskEnd}
-use Rattle.control_desk.specs.declared.counts.DeskEnd.TheVariants as desk
-use Rattle.file_service.specs.declared.ends.RunEnd.{RunEnd}
-use Rattle.file_service.specs.declared.ends.RunEnd.TheVariants.{Done, PortFailed, DeskFailed, BudgetSpent}
-use Rattle.file_service.specs.Ends.{is_port_fault, is_spent, end_by, run_end, TellsEnd}
-use Rattle.file_service.specs.Service.{HasRisen, OneHasFailed, WritesReport}
+use Rattle.reflector_serve.specs.Served.{IsServed, AllServed}
+use Rattle.file_service.specs.Ends.{is_port_fault, is_spent}
+use Rattle.file_service.specs.Service.{HasRisen, OneHasFailed}
 
 -- ---- failures in a row are among those that a tally counts
 
@@ -74,7 +69,6 @@ risen_by : (old new n : ℕ) → 0 < n → RisesBy n old new → HasRisen old ne
 risen_by old new n some h = omega (arith, some, h.each)
 
 module _ {P S : Type 0} (v : PortView P S) (t : Table) (f : File) (config : ℕ → ConfigParts) where
-
   worker_failed : (told : List PortEntry) (p q : P) (xs : List Step) (y : Tally) → IsServed v t f config told p q xs y → is_port_fault y.end ≡ true → HasRisen (v.faults p) (v.faults q)
   worker_failed told p q xs y h e =
       let many = row_at_end f.limit f.turns h.rounds (subst (λ (k : WorkEnd). IsEnd f.limit f.turns h.rounds k) (is_fault y.end e) h.worked.end) in
@@ -95,42 +89,16 @@ module _ {P S : Type 0} (v : PortView P S) (t : Table) (f : File) (config : ℕ 
   port_failed told [] qs (xs ∷ lists) (y ∷ ys) h e = absurd h
   port_failed told (p ∷ ps) [] (xs ∷ lists) (y ∷ ys) h e = absurd h
   port_failed told (p ∷ ps) (q ∷ qs) (xs ∷ lists) (y ∷ ys) h e = by (is_port_fault y.end) refl
-   where
-    by : (b : Bool) → is_port_fault y.end ≡ b → OneHasFailed v (p ∷ ps) (q ∷ qs)
-    by true k = here p q ps qs (worker_failed told p q xs y h.0 k)
-    by false k = there p q ps qs (port_failed [] ps qs lists ys h.1 (ap (λ (b : Bool). b || list_any (λ y. is_port_fault y.end) ys) (sym k) ∙ e))
+    where
+      by : (b : Bool) → is_port_fault y.end ≡ b → OneHasFailed v (p ∷ ps) (q ∷ qs)
+      by true k = here p q ps qs (worker_failed told p q xs y h.0 k)
+      by false k = there p q ps qs (port_failed [] ps qs lists ys h.1 (ap (λ (b : Bool). b || list_any (λ y. is_port_fault y.end) ys) (sym k) ∙ e))
 
 -- ---- an opening that failed
 
-risen : (old new : ℕ) → Rises old new → HasRisen old new
+pub risen : (old new : ℕ) → Rises old new → HasRisen old new
 risen old new (inl h) = omega (arith, h)
 risen old new (inr h) = omega (arith, h.0, h.1)
 
 pub opening_failed : {P S : Type 0} (v : PortView P S) (ps qs : List P) → OneFails v.faults ps qs → OneHasFailed v ps qs
 opening_failed v ps qs h = record { place = h.place; inside = h.inside; risen = λ d. risen _ _ (h.rises d) }
-
--- ---- the status 9
-
-told_port : (k : RunEnd) (written written' : Option (List ℕ)) (faults faults' : ℕ) → TellsEnd k 9 written written' faults faults' → k ≡ PortFailed
-told_port Done written written' faults faults' h = let e = h.0 in absurd (omega (arith, e))
-told_port PortFailed written written' faults faults' h = refl
-told_port DeskFailed written written' faults faults' h = let e = h.0 in absurd (omega (arith, e))
-told_port BudgetSpent written written' faults faults' h = let e = h.0 in absurd (omega (arith, e))
-
-by_port : (d : DeskEnd) (failed spent : Bool) → end_by d failed spent ≡ PortFailed → failed ≡ true
-by_port desk.Fault failed spent h = absurd cc
-by_port desk.Budget true spent h = refl
-by_port desk.Budget false spent h = absurd cc
-by_port desk.End true spent h = refl
-by_port desk.End false true h = absurd cc
-by_port desk.End false false h = absurd cc
-by_port desk.Quit true spent h = refl
-by_port desk.Quit false true h = absurd cc
-by_port desk.Quit false false h = absurd cc
-
--- where a run ended with 9, a port's count of failures has risen
-pub run_failed : {P S D T : Type 0} (v : PortView P S) (w : DeskView D T) (f : File) (ps qs : List P) (d e : D) (r : Report) (written written' : Option (List ℕ)) (faults faults' : ℕ)
-    → Served v w f ps qs d e r → WritesReport r 9 written written' faults faults' → OneHasFailed v ps qs
-run_failed v w f ps qs d e r written written' faults faults' s h =
-    let failed = by_port r.desk.end (list_any (λ t. is_port_fault t.end) r.workers.items) (list_any (λ t. is_spent t.end) r.workers.items) (told_port (run_end r) h.reported written' faults faults' h.end) in
-    port_failed v s.table f (config_at (steps_of s.joined)) (read s.moment ∷ []) ps qs s.lists r.workers.items s.ports failed

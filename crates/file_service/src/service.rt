@@ -1,17 +1,19 @@
 //! Serving by the name of a file.
 
-ghost use Rattle.std.specs.Prelude.{ℕ, ◌≡◌, ◌≢◌, ◌⊎◌, ◌≤◌, length, codes, Err, IfOk};
+ghost use Rattle.std.specs.Prelude.{ℕ, ◌≡◌, ◌≢◌, ◌⊎◌, ◌<◌, ◌≤◌, List, length, codes, Some, Ok, Err, IfOk};
 ghost use Rattle.port_io.specs.Outside.{Rises, AppendsFront};
 ghost use Rattle.conf_text.specs.Faults.{Limit};
-ghost use Rattle.conf_text.specs.File.{File};
+ghost use Rattle.port_io.specs.Files as port;
+ghost use Rattle.port_io.specs.Files.{content};
+ghost use Rattle.conf_text.specs.File.{File, file_in};
 ghost use Rattle.conf_check.specs.Lines.{fault_line};
-ghost use Rattle.conf_check.specs.Loading.{IsAccepted};
+ghost use Rattle.conf_check.specs.Loading.{file_limit, IsAccepted};
 ghost use Rattle.conf_check.specs.Writing.{WritesLine, WritesNothing};
-ghost use Rattle.conf_check.specs.Checking.{WasFaulty, WasNotLoaded};
+ghost use Rattle.conf_check.specs.Checking.{WasFaulty, WasNotLoaded, content_status};
 ghost use Rattle.reflector_serve.specs.Ports.{port_view};
 ghost use Rattle.reflector_serve.specs.Served.{desk_view};
 ghost use Rattle.file_service.specs.Ends as spec;
-ghost use Rattle.file_service.specs.Service.{WritesReport, HasServed, HasLostReport, HasNoReport, HasClosedPort, HasClosedDesk, HasTooFewPorts, OfFile};
+ghost use Rattle.file_service.specs.Service.{WritesReport, HasServed, HasLostReport, HasNoReport, HasClosedPort, HasClosedDesk, HasTooFewPorts, OfFile, HasRisen, OneHasFailed, NothingFails};
 
 use crate::ends::{RunEnd, run_end, tell_end};
 use conf_check::{Refusal, load_conf, write_refusal};
@@ -24,7 +26,12 @@ use std::alloc::Global;
 use std::thread::Threads;
 
 /// The file of that name, or the status with which it was refused, after its line was written.
-fn open_conf<F: Files, K: Sink>(alloc: Global, name: &str, files: &mut F, out: &mut K) -> Result<Conf, u8>
+fn open_conf<F: Files, K: Sink>(
+    alloc: Global,
+    name: &str,
+    files: &mut F,
+    out: &mut K,
+) -> Result<Conf, u8>
     ensures accepted { IfOk result (λ f. IsAccepted (F.files files.old) name.now f) }
     ensures quiet { IfOk result (λ _. (out.new ≡ out.old) × (F.faults files.new ≡ F.faults files.old)) }
     ensures statuses { (s : ℕ) → result ≡ Err s → (s ≡ 3) ⊎ (s ≡ 4) ⊎ (s ≡ 5) }
@@ -84,6 +91,9 @@ fn serve_conf<R: Threads + Sync, K: Sink, P: Port + Send, D: Desk>(
     ensures port_failed { result ≡ 9 → HasClosedPort (port_view P.log P.coming P.bound P.made P.faults) ports.old ports.new desk.old desk.new (K.written out.old) (K.written out.new) (K.faults out.old) (K.faults out.new) ⊎ HasServed (port_view P.log P.coming P.bound P.made P.faults) (desk_view D.log D.coming D.made D.faults) conf.now ports.old ports.new desk.old desk.new 9 (K.written out.old) (K.written out.new) (K.faults out.old) (K.faults out.new) }
     ensures desk_failed { result ≡ 10 → HasClosedDesk (port_view P.log P.coming P.bound P.made P.faults) (desk_view D.log D.coming D.made D.faults) ports.old ports.new desk.old desk.new (K.written out.old) (K.written out.new) (K.faults out.old) (K.faults out.new) ⊎ HasServed (port_view P.log P.coming P.bound P.made P.faults) (desk_view D.log D.coming D.made D.faults) conf.now ports.old ports.new desk.old desk.new 10 (K.written out.old) (K.written out.new) (K.faults out.old) (K.faults out.new) }
     ensures budget_spent { result ≡ 11 → HasServed (port_view P.log P.coming P.bound P.made P.faults) (desk_view D.log D.coming D.made D.faults) conf.now ports.old ports.new desk.old desk.new 11 (K.written out.old) (K.written out.new) (K.faults out.old) (K.faults out.new) }
+    ensures port_cause { result ≡ 9 → OneHasFailed (port_view P.log P.coming P.bound P.made P.faults) ports.old ports.new }
+    ensures desk_cause { result ≡ 10 → HasRisen (D.faults desk.old) (D.faults desk.new) }
+    ensures complete { NothingFails (port_view P.log P.coming P.bound P.made P.faults) (desk_view D.log D.coming D.made D.faults) conf.now ports.old ports.new desk.old desk.new (K.faults out.old) (K.faults out.new) → (result ≡ 0) ⊎ (result ≡ 4) }
 {
     match serve(rt, alloc, conf, ports, desk) {
         Ok(report) => tell_report(alloc, &report, out),
@@ -125,6 +135,18 @@ pub fn run_file<R: Threads + Sync, K: Sink, F: Files, P: Port + Send, D: Desk>(
     ensures port_failed { result ≡ 9 → OfFile (F.files files.old) name.now ports.old (λ f. HasClosedPort (port_view P.log P.coming P.bound P.made P.faults) ports.old ports.new desk.old desk.new (K.written out.old) (K.written out.new) (K.faults out.old) (K.faults out.new) ⊎ HasServed (port_view P.log P.coming P.bound P.made P.faults) (desk_view D.log D.coming D.made D.faults) f ports.old ports.new desk.old desk.new 9 (K.written out.old) (K.written out.new) (K.faults out.old) (K.faults out.new)) }
     ensures desk_failed { result ≡ 10 → OfFile (F.files files.old) name.now ports.old (λ f. HasClosedDesk (port_view P.log P.coming P.bound P.made P.faults) (desk_view D.log D.coming D.made D.faults) ports.old ports.new desk.old desk.new (K.written out.old) (K.written out.new) (K.faults out.old) (K.faults out.new) ⊎ HasServed (port_view P.log P.coming P.bound P.made P.faults) (desk_view D.log D.coming D.made D.faults) f ports.old ports.new desk.old desk.new 10 (K.written out.old) (K.written out.new) (K.faults out.old) (K.faults out.new)) }
     ensures budget_spent { result ≡ 11 → OfFile (F.files files.old) name.now ports.old (λ f. HasServed (port_view P.log P.coming P.bound P.made P.faults) (desk_view D.log D.coming D.made D.faults) f ports.old ports.new desk.old desk.new 11 (K.written out.old) (K.written out.new) (K.faults out.old) (K.faults out.new)) }
+    ensures port_cause { result ≡ 9 → OneHasFailed (port_view P.log P.coming P.bound P.made P.faults) ports.old ports.new }
+    ensures desk_cause { result ≡ 10 → HasRisen (D.faults desk.old) (D.faults desk.new) }
+
+    // Where no load fails, the content decides whether it is served; and what is served ends with 0 where nothing else fails
+    // and no budget is spent. Memory alone is free.
+    ensures refused { (fs : List port.File) (text : List ℕ) → F.files files.old ≡ Some fs → content name.now fs ≡ Some text → (Rises (F.faults files.old) (F.faults files.new) → ⊥)
+        → (content_status text ≡ 0 → ⊥) → (result ≡ content_status text) ⊎ (result ≡ 4) }
+    ensures crowded { (fs : List port.File) (text : List ℕ) (f : File) → F.files files.old ≡ Some fs → content name.now fs ≡ Some text → (Rises (F.faults files.old) (F.faults files.new) → ⊥)
+        → length text ≤ file_limit → file_in text ≡ Ok f → length ports.old < f.workers → (result ≡ 3) ⊎ (result ≡ 4) }
+    ensures complete { (fs : List port.File) (text : List ℕ) (f : File) → F.files files.old ≡ Some fs → content name.now fs ≡ Some text → (Rises (F.faults files.old) (F.faults files.new) → ⊥)
+        → length text ≤ file_limit → file_in text ≡ Ok f → f.workers ≤ length ports.old
+        → NothingFails (port_view P.log P.coming P.bound P.made P.faults) (desk_view D.log D.coming D.made D.faults) f ports.old ports.new desk.old desk.new (K.faults out.old) (K.faults out.new) → (result ≡ 0) ⊎ (result ≡ 4) }
 {
     let conf = match open_conf(alloc, name, files, out) {
         Ok(conf) => conf,

@@ -92,7 +92,13 @@ fn is_answered(rt: HostRuntime, case: &Case) -> Result<(), Fail> {
         100,
     )?;
     let status = run_file(
-        &rt, alloc, NAME, &mut files, &mut out, ports.as_mut_slice(), &mut desk,
+        &rt,
+        alloc,
+        NAME,
+        &mut files,
+        &mut out,
+        ports.as_mut_slice(),
+        &mut desk,
     );
     assert_eq!(rt; status, case.status);
     assert_eq!(rt; out.written(), case.written);
@@ -166,15 +172,30 @@ fn sixty_four_failures_of_the_desk_in_a_row_are_told_before_a_port_and_63_are_no
 
 #[test]
 fn what_fails_to_open_is_told_without_a_report(rt: HostRuntime) -> Result<(), Fail> {
-    let closed_port = Case { opens: 1, status: 9, written: b"stampd: port failed\n", ..WELL };
-    let closed_desk = Case { desk_opens: 1, status: 10, written: b"stampd: desk failed\n", ..WELL };
+    let closed_port = Case {
+        opens: 1,
+        status: 9,
+        written: b"stampd: port failed\n",
+        ..WELL
+    };
+    let closed_desk = Case {
+        desk_opens: 1,
+        status: 10,
+        written: b"stampd: desk failed\n",
+        ..WELL
+    };
     is_answered(rt, &closed_port)?;
     is_answered(rt, &closed_desk)
 }
 
 #[test]
 fn a_file_with_a_fault_or_too_many_workers_serves_nothing(rt: HostRuntime) -> Result<(), Fail> {
-    let empty = Case { text: "", status: 3, written: b"stampd: configuration: missing locals\n", ..WELL };
+    let empty = Case {
+        text: "",
+        status: 3,
+        written: b"stampd: configuration: missing locals\n",
+        ..WELL
+    };
     let crowded = Case {
         text: "locals = [\"192.0.2.10:862\"]\nworkers = 2\n[configs.edge]\n",
         status: 3,
@@ -187,12 +208,22 @@ fn a_file_with_a_fault_or_too_many_workers_serves_nothing(rt: HostRuntime) -> Re
 
 #[test]
 fn a_report_that_cannot_be_written_ends_with_8(rt: HostRuntime) -> Result<(), Fail> {
-    is_answered(rt, &Case { write: 1, status: 8, written: b"", ..WELL })
+    is_answered(
+        rt,
+        &Case {
+            write: 1,
+            status: 8,
+            written: b"",
+            ..WELL
+        },
+    )
 }
 
-const OPERATORS: &str = "locals = [\"192.0.2.10:862\", \"192.0.2.11:862\"]\nworkers = 4\n[configs.edge]\n[configs.core]\nformat = \"ptp\"\noffset = 37\n[configs.secure]\nkey = \"000102030405060708090a0b0c0d0e0f\"\n";
+const OPERATORS: &str =
+    "locals = [\"192.0.2.10:862\", \"192.0.2.11:862\"]\nworkers = 4\n[configs.edge]\n[configs.core]\nformat = \"ptp\"\noffset = 37\n[configs.secure]\nkey = \"000102030405060708090a0b0c0d0e0f\"\n";
 
-const OPERATORS_REPORT: &[u8] = b"worker 0 taken 10 sent 10 nosession 0 short 0 badhmac 0 changed 0 noreply 0 sendfault 0 recvfault 0 end\nworker 1 taken 10 sent 10 nosession 0 short 0 badhmac 0 changed 0 noreply 0 sendfault 0 recvfault 0 end\nworker 2 taken 10 sent 10 nosession 0 short 0 badhmac 0 changed 0 noreply 0 sendfault 0 recvfault 0 end\nworker 3 taken 10 sent 10 nosession 0 short 0 badhmac 0 changed 0 noreply 0 sendfault 0 recvfault 0 end\ndesk events 1 faults 0 end\nsessions live 40 closed 0 expired 0\n";
+const OPERATORS_REPORT: &[u8] =
+    b"worker 0 taken 10 sent 10 nosession 0 short 0 badhmac 0 changed 0 noreply 0 sendfault 0 recvfault 0 end\nworker 1 taken 10 sent 10 nosession 0 short 0 badhmac 0 changed 0 noreply 0 sendfault 0 recvfault 0 end\nworker 2 taken 10 sent 10 nosession 0 short 0 badhmac 0 changed 0 noreply 0 sendfault 0 recvfault 0 end\nworker 3 taken 10 sent 10 nosession 0 short 0 badhmac 0 changed 0 noreply 0 sendfault 0 recvfault 0 end\ndesk events 1 faults 0 end\nsessions live 40 closed 0 expired 0\n";
 
 /// A file with forty sessions, each of its own peer.
 fn operators_file(alloc: Global) -> Result<String, AllocError> {
@@ -201,7 +232,9 @@ fn operators_file(alloc: Global) -> Result<String, AllocError> {
         let local = session % 2;
         let host = session + 1;
         let config = if session < 20 { "edge" } else { "core" };
-        let row = format!(in alloc; "[[sessions]]\nlocal = {local}\npeer = \"198.51.100.{host}:5000\"\nssid = {session}\nconfig = \"{config}\"\n")?;
+        let row = format!(in alloc;
+            "[[sessions]]\nlocal = {local}\npeer = \"198.51.100.{host}:5000\"\nssid = {session}\nconfig = \"{config}\"\n"
+        )?;
         text.push_str(&row)?;
     }
     Ok(text)
@@ -273,7 +306,13 @@ fn four_workers_answer_the_datagrams_of_forty_sessions(rt: HostRuntime) -> Resul
         100,
     )?;
     let status = run_file(
-        &rt, alloc, NAME, &mut files, &mut out, ports.as_mut_slice(), &mut desk,
+        &rt,
+        alloc,
+        NAME,
+        &mut files,
+        &mut out,
+        ports.as_mut_slice(),
+        &mut desk,
     );
     assert_eq!(rt; status, 0);
     assert_eq!(rt; out.written(), OPERATORS_REPORT);
