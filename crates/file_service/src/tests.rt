@@ -4,7 +4,7 @@ ghost use Rattle.std.specs.Prelude.{◌<◌, IfOk};
 ghost use Rattle.net_io.specs.ScriptPort.{IsWhole};
 
 use crate::run_file;
-use net_io::{PortItem, ScriptDesk, ScriptPort};
+use net_io::{DeskEvent, DeskItem, PortItem, ScriptDesk, ScriptPort};
 use port_io::{MemFiles, MemSink};
 use refl_types::{Address, Endpoint, Meta};
 use std::alloc::{AllocError, Global};
@@ -217,6 +217,74 @@ fn a_report_that_cannot_be_written_ends_with_8(rt: HostRuntime) -> Result<(), Fa
             ..WELL
         },
     )
+}
+
+const WAITING: &str = "locals = [\"192.0.2.10:862\"]\nworkers = 1\n[configs.edge]\n[[sessions]]\npeer = \"198.51.100.1:5000\"\nconfig = \"edge\"\nwait = 10\n";
+
+/// A port that tells the moment of the opening, and then its end.
+fn port_at(alloc: Global, moment: u64) -> Result<ScriptPort, Fail> {
+    let mut moments = Vec::new(alloc);
+    moments.push(moment)?;
+    Ok(ScriptPort::make(
+        alloc,
+        Vec::new(alloc),
+        moments,
+        Vec::new(alloc),
+        Vec::new(alloc),
+        Vec::new(alloc),
+        Vec::new(alloc),
+        100,
+        100,
+    )?)
+}
+
+/// A desk that gives a Tick at each of these moments, and then its end.
+fn ticking_desk(alloc: Global, moments: &[u64]) -> Result<ScriptDesk, Fail> {
+    let mut items = Vec::new(alloc);
+    for moment in moments {
+        items.push(DeskItem {
+            moment: *moment,
+            event: DeskEvent::Tick,
+            octets: Vec::new(alloc),
+        })?;
+    }
+    Ok(ScriptDesk::make(
+        alloc,
+        items,
+        Vec::new(alloc),
+        Vec::new(alloc),
+        Vec::new(alloc),
+        100,
+        100,
+    )?)
+}
+
+#[test]
+fn a_session_expires_at_the_tick_by_which_its_wait_has_passed(rt: HostRuntime) -> Result<(), Fail> {
+    let alloc = rt.alloc();
+    for (ticks, written) in [
+        (
+            [14_999_999_999, 15_000_000_000].as_slice(),
+            b"worker 0 taken 0 sent 0 nosession 0 short 0 badhmac 0 changed 0 noreply 0 sendfault 0 recvfault 0 end\ndesk events 3 faults 0 end\nsessions live 0 closed 0 expired 1\n"
+                .as_slice(),
+        ),
+        (
+            &[14_999_999_999],
+            b"worker 0 taken 0 sent 0 nosession 0 short 0 badhmac 0 changed 0 noreply 0 sendfault 0 recvfault 0 end\ndesk events 2 faults 0 end\nsessions live 1 closed 0 expired 0\n",
+        ),
+    ] {
+        let mut files = one_file(alloc, WAITING)?;
+        let mut out = MemSink::make(alloc, 1000, Vec::new(alloc))?;
+        let mut ports = Vec::new(alloc);
+        ports.push(port_at(alloc, 5_000_000_000)?)?;
+        let mut desk = ticking_desk(alloc, ticks)?;
+        let status = run_file(
+            &rt, alloc, NAME, &mut files, &mut out, ports.as_mut_slice(), &mut desk,
+        );
+        assert_eq!(rt; status, 0);
+        assert_eq!(rt; out.written(), written);
+    }
+    Ok(())
 }
 
 const OPERATORS: &str =

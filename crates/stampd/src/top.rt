@@ -1,18 +1,18 @@
 //! The program over the objects that it is given.
 
-ghost use Rattle.std.specs.Prelude.{ℕ, ◌≡◌, ◌≢◌, ◌⊎◌, List, Some, IfSome, length, map, string_bytes};
+ghost use Rattle.std.specs.Prelude.{ℕ, ◌≡◌, ◌≢◌, ◌⊎◌, ◌<◌, ◌≤◌, List, Some, IfSome, Ok, length, map, string_bytes};
 ghost use Rattle.std.specs.Io.KnownBytes.{Keeps};
 ghost use Rattle.replay_format.specs.Records.{Item};
 ghost use Rattle.port_io.specs.Outside.{Rises};
 ghost use Rattle.port_io.specs.Files as port;
 ghost use Rattle.port_io.specs.Files.{content};
-ghost use Rattle.conf_text.specs.File.{File};
-ghost use Rattle.conf_check.specs.Loading.{IsAccepted};
+ghost use Rattle.conf_text.specs.File.{File, file_in};
+ghost use Rattle.conf_check.specs.Loading.{file_limit, IsAccepted};
 ghost use Rattle.conf_check.specs.Writing.{WritesLine};
 ghost use Rattle.conf_check.specs.Checking.{WasAccepted, WasCutShort, WasFaulty, WasNotLoaded, content_status};
 ghost use Rattle.reflector_serve.specs.Ports.{port_view};
 ghost use Rattle.reflector_serve.specs.Served.{desk_view};
-ghost use Rattle.file_service.specs.Service.{HasServed, HasLostReport, HasNoReport, HasClosedPort, HasClosedDesk, HasTooFewPorts, OfFile};
+ghost use Rattle.file_service.specs.Service.{HasServed, HasLostReport, HasNoReport, HasClosedPort, HasClosedDesk, HasTooFewPorts, OfFile, HasRisen, OneHasFailed, NothingFails};
 ghost use Rattle.stampd.specs.Command.{IsReplay, IsCheck, IsRun, IsAnyCommand, usage};
 ghost use Rattle.stampd.specs.Replay.{IsStream, IsNoStream, IsDone, HasLeft, WasCutOff, WasStopped, IsUntouched};
 
@@ -94,6 +94,9 @@ pub fn stampd<R: Threads + Sync, S: Source, K: Sink, F: Files, P: Port + Send, D
     ensures desk_failed { result ≡ 10 → (name : List ℕ) × IsRun name (map string_bytes words.now) × OfFile (F.files files.old) name ports.old (λ f. HasClosedDesk (port_view P.log P.coming P.bound P.made P.faults) (desk_view D.log D.coming D.made D.faults) ports.old ports.new desk.old desk.new (K.written out.old) (K.written out.new) (K.faults out.old) (K.faults out.new) ⊎ HasServed (port_view P.log P.coming P.bound P.made P.faults) (desk_view D.log D.coming D.made D.faults) f ports.old ports.new desk.old desk.new 10 (K.written out.old) (K.written out.new) (K.faults out.old) (K.faults out.new)) }
     ensures budget_spent { result ≡ 11 → (name : List ℕ) × IsRun name (map string_bytes words.now) × OfFile (F.files files.old) name ports.old (λ f. HasServed (port_view P.log P.coming P.bound P.made P.faults) (desk_view D.log D.coming D.made D.faults) f ports.old ports.new desk.old desk.new 11 (K.written out.old) (K.written out.new) (K.faults out.old) (K.faults out.new)) }
 
+    ensures port_cause { result ≡ 9 → OneHasFailed (port_view P.log P.coming P.bound P.made P.faults) ports.old ports.new }
+    ensures desk_cause { result ≡ 10 → HasRisen (D.faults desk.old) (D.faults desk.new) }
+
     // Where nothing fails, a stream is answered, what is none is told so, and of a file its content alone decides.
     ensures complete { (octets : List ℕ) (records : List Item) → S.left input.old ≡ Some octets → IsStream octets records → IsReplay (map string_bytes words.now)
         → (Rises (S.faults input.old) (S.faults input.new) → ⊥) → (Rises (K.faults out.old) (K.faults out.new) → ⊥) → (result ≡ 0) ⊎ (result ≡ 4) }
@@ -101,6 +104,15 @@ pub fn stampd<R: Threads + Sync, S: Source, K: Sink, F: Files, P: Port + Send, D
         → (Rises (S.faults input.old) (S.faults input.new) → ⊥) → (Rises (K.faults out.old) (K.faults out.new) → ⊥) → (result ≡ 6) ⊎ (result ≡ 4) }
     ensures checked { (fs : List port.File) (name text : List ℕ) → F.files files.old ≡ Some fs → content name fs ≡ Some text → IsCheck name (map string_bytes words.now)
         → (Rises (F.faults files.old) (F.faults files.new) → ⊥) → (Rises (K.faults out.old) (K.faults out.new) → ⊥) → (result ≡ content_status text) ⊎ (result ≡ 4) }
+
+    // Likewise of a file to serve; and what is served ends with 0 where no budget is spent besides.
+    ensures turned_away { (fs : List port.File) (name text : List ℕ) → F.files files.old ≡ Some fs → content name fs ≡ Some text → IsRun name (map string_bytes words.now)
+        → (Rises (F.faults files.old) (F.faults files.new) → ⊥) → (content_status text ≡ 0 → ⊥) → (result ≡ content_status text) ⊎ (result ≡ 4) }
+    ensures crowded { (fs : List port.File) (name text : List ℕ) (f : File) → F.files files.old ≡ Some fs → content name fs ≡ Some text → IsRun name (map string_bytes words.now)
+        → (Rises (F.faults files.old) (F.faults files.new) → ⊥) → length text ≤ file_limit → file_in text ≡ Ok f → length ports.old < f.workers → (result ≡ 3) ⊎ (result ≡ 4) }
+    ensures served { (fs : List port.File) (name text : List ℕ) (f : File) → F.files files.old ≡ Some fs → content name fs ≡ Some text → IsRun name (map string_bytes words.now)
+        → (Rises (F.faults files.old) (F.faults files.new) → ⊥) → length text ≤ file_limit → file_in text ≡ Ok f → f.workers ≤ length ports.old
+        → NothingFails (port_view P.log P.coming P.bound P.made P.faults) (desk_view D.log D.coming D.made D.faults) f ports.old ports.new desk.old desk.new (K.faults out.old) (K.faults out.new) → (result ≡ 0) ⊎ (result ≡ 4) }
 {
     let Some(name) = file_to_run(words) else {
         return offline(alloc, words, input, out, files);
