@@ -1081,3 +1081,103 @@ def a_daemon_whose_address_is_taken_says_so(program):
         ended = subprocess.run([program, "run", file], stdin=subprocess.DEVNULL, stdout=PIPE, timeout=SECONDS)
         found = ended.stdout, ended.returncode
         return None if found == (b"stampd: port failed\n", 9) else f"{found}"
+
+
+CONTROLLED = """locals = ["127.0.0.1:{local}"]
+workers = 2
+control = "127.0.0.1:{control}"
+operator = "127.0.0.1:{operator}"
+twamp = "edge"
+sessions = [{{peer = "127.0.0.1:{idle}", config = "edge", wait = 1}}]
+[configs.edge]
+[configs.precise]
+format = "ptp"
+"""
+
+CONTROLLED_REPORT = (
+    rb"worker 0 taken (\d+) sent \1 nosession 0 short 0 badhmac 0 changed 0 noreply 0 sendfault 0 recvfault 0 end\n"
+    rb"worker 1 taken (\d+) sent \2 nosession 0 short 0 badhmac 0 changed 0 noreply 0 sendfault 0 recvfault 0 end\n"
+    rb"desk events \d+ faults 0 quit\nsessions live 0 closed 1 expired 1\n"
+)
+
+
+def octets_from(connection, count):
+    """So many octets of a connection, or fewer where it ends."""
+    found = b""
+    while len(found) < count:
+        piece = connection.recv(count - len(found))
+        if not piece:
+            break
+        found += piece
+    return found
+
+
+def negotiates(client, sender, port):
+    """What is wrong with the talk of a client of TWAMP-Control that asks for one session and starts it."""
+    greeting = octets_from(client, 64)
+    client.sendall((97).to_bytes(4, "big") + bytes(160))
+    started = octets_from(client, 48)
+    ends_of = sender.getsockname()[1].to_bytes(2, "big") + port.to_bytes(2, "big")
+    client.sendall(bytes([5, 4]) + bytes(10) + ends_of + bytes(96))
+    accepted = octets_from(client, 48)
+    client.sendall(bytes([2]) + bytes(31))
+    answered = octets_from(client, 32)
+    found = len(greeting), greeting[12:16], len(started), started[15], accepted[:4], answered
+    wanted = 64, (97).to_bytes(4, "big"), 48, 0, bytes(2) + port.to_bytes(2, "big"), bytes(32)
+    return None if found == wanted else f"the talk: {found} in place of {wanted}"
+
+
+def reconfigured_under_traffic(operator, sender, port, count):
+    """What is wrong with the replies to so many requests, while the session changes its configuration again and again."""
+    session = b"0 127.0.0.1:%d twamp 0" % sender.getsockname()[1]
+    for number in range(count):
+        if number % 10 == 0:
+            operator.sendall(b"set " + session + (b" precise\n" if number % 20 == 0 else b" edge\n"))
+        sent = number.to_bytes(4, "big") + bytes.fromhex("0102030405060708 8001")
+        sender.sendto(sent, ("127.0.0.1", port))
+        reply = sender.recv(65536)
+        found, wanted = (len(reply), reply[:4], reply[24:38]), (41, sent[:4], sent)
+        if found != wanted:
+            return f"the reply to request {number}: {found} in place of {wanted}"
+    changes = b"ok\n" * (count // 10)
+    found = octets_from(operator, len(changes))
+    return None if found == changes else f"the answers to the changes: {found!r}"
+
+
+def comes_to(operator, line, wanted):
+    """What is wrong where a line isn't answered so within ten seconds."""
+    until = time.monotonic() + 10
+    while True:
+        operator.sendall(line + b"\n")
+        found = operator.recv(4096)
+        if found == wanted:
+            return None
+        if time.monotonic() > until:
+            return f"{line!r}: {found!r} in place of {wanted!r}"
+        time.sleep(0.2)
+
+
+@case
+def a_daemon_negotiates_a_session_changes_it_under_traffic_and_lets_another_expire(program):
+    with loopback(socket.SOCK_DGRAM) as sender, loopback(socket.SOCK_DGRAM) as idle, tempfile.TemporaryDirectory() as folder:
+        with loopback(socket.SOCK_DGRAM) as local, loopback(socket.SOCK_STREAM) as one, loopback(socket.SOCK_STREAM) as other:
+            port, talk, lines = (made.getsockname()[1] for made in (local, one, other))
+        file = pathlib.Path(folder) / "reflector.toml"
+        file.write_text(CONTROLLED.format(local=port, control=talk, operator=lines, idle=idle.getsockname()[1]))
+        process = start(program, ("run", file), stdin=subprocess.DEVNULL)
+        with connection_to(lines) as operator, connection_to(talk) as client:
+            wrong = (
+                negotiates(client, sender, port)
+                or reconfigured_under_traffic(operator, sender, port, 200)
+                or comes_to(operator, b"count 0 127.0.0.1:%d plain 0" % idle.getsockname()[1], b"refused no such\n")
+            )
+            client.sendall(bytes([3]) + bytes(6) + bytes([1]) + bytes(24))
+            wrong = wrong or comes_to(operator, b"list", b"ok 0\n") or asks(operator, b"quit", b"bye\n")
+            if wrong:
+                process.kill()
+                return wrong
+        told = process.stdout.read()
+        counted = re.fullmatch(CONTROLLED_REPORT, told)
+        if not counted or int(counted[1]) + int(counted[2]) != 200:
+            return f"the report: {told!r}"
+        return ends(process, 0)
