@@ -1160,8 +1160,8 @@ def comes_to(operator, line, wanted):
 @case
 def a_daemon_negotiates_a_session_changes_it_under_traffic_and_lets_another_expire(program):
     with loopback(socket.SOCK_DGRAM) as sender, loopback(socket.SOCK_DGRAM) as idle, tempfile.TemporaryDirectory() as folder:
-        with loopback(socket.SOCK_DGRAM) as local, loopback(socket.SOCK_STREAM) as one, loopback(socket.SOCK_STREAM) as other:
-            port, talk, lines = (made.getsockname()[1] for made in (local, one, other))
+        with loopback(socket.SOCK_DGRAM) as at, loopback(socket.SOCK_STREAM) as one, loopback(socket.SOCK_STREAM) as other:
+            port, talk, lines = (made.getsockname()[1] for made in (at, one, other))
         file = pathlib.Path(folder) / "reflector.toml"
         file.write_text(CONTROLLED.format(local=port, control=talk, operator=lines, idle=idle.getsockname()[1]))
         process = start(program, ("run", file), stdin=subprocess.DEVNULL)
