@@ -1,5 +1,5 @@
 -- What shows why a run ended as it did: a port's count of failures has risen, the desk's has, or a budget was spent.
-use Rattle.std.proofs.Common.{◌≡◌, ℕ, ◌+◌, ◌-◌, ◌^◌, ◌≤◌, min, Bool, true, false, List, [], ◌∷◌, Option, refl, arith}
+use Rattle.std.proofs.Common.{◌≡◌, ◌⊎◌, ℕ, ◌+◌, ◌-◌, ◌^◌, ◌≤◌, min, Bool, true, false, List, [], ◌∷◌, Option, inl, inr, refl, sym, subst, ◌∙◌, arith}
 use Rattle.std.specs.List.{list_any}
 use Rattle.session_world.specs.Desk.{config_at}
 use Rattle.session_desk.specs.Book.{steps_of}
@@ -102,3 +102,10 @@ module _ {P S D T : Type 0} (v : PortView P S) (w : DeskView D T) (f : File) (ps
         by PortFailed end told = absurd (none.ports (port_end r s end))
         by DeskFailed end told = absurd (none.desk_calls (desk_end r s end))
         by BudgetSpent end told = absurd (budget_end r (none.budgets r s) end)
+
+    -- a report that was written with a status of its end
+    pub served_with : (r : Report) (n status : ℕ) → status ≡ n → (n ≡ 4 → ⊥) → (n ≡ 8 → ⊥) → Served v w f ps qs d e r
+        → (status ≡ 4) ⊎ (status ≡ 8) ⊎ WritesReport r status written written' faults faults' → HasServed v w f ps qs d e n written written' faults faults'
+    served_with r n status same four eight s (inl h) = absurd (four (sym same ∙ h))
+    served_with r n status same four eight s (inr (inl h)) = absurd (eight (sym same ∙ h))
+    served_with r n status same four eight s (inr (inr h)) = (r, s, subst (λ (x : ℕ). WritesReport r x written written' faults faults') same h)

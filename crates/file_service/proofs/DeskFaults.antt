@@ -58,7 +58,7 @@ use Rattle.control_desk.specs.Run.{is_refused, begun, control_side, greet, opene
 
 -- ---- how many failures acts tell, and what is counted of them
 
-failure : DeskEntry → ℕ
+abbrev failure : DeskEntry → ℕ
 failure (opened control operator) = 0
 failure open_failed = 0
 failure (gave t octets) = 0
@@ -68,7 +68,7 @@ failure (send_failed n octets) = 1
 failure (hung_up n) = 0
 failure finished = 0
 
-failures : List Act → ℕ
+abbrev failures : List Act → ℕ
 failures [] = 0
 failures (noted e ∷ acts) = failure e + failures acts
 failures (called call ∷ acts) = failures acts

@@ -85,14 +85,14 @@ module _ {P S : Type 0} (v : PortView P S) (t : Table) (f : File) (config : ℕ 
   pub port_failed : (told : List PortEntry) (ps qs : List P) (lists : List (List Step)) (ys : List Tally) → AllServed v t f config told ps qs lists ys → list_any (λ y. is_port_fault y.end) ys ≡ true → OneHasFailed v ps qs
   port_failed told ps qs [] [] h e = absurd cc
   port_failed told ps qs [] (y ∷ ys) h e = absurd h
-  port_failed told ps qs (xs ∷ lists) [] h e = absurd h
+  port_failed told ps qs (xs ∷ lists) [] h e = absurd cc
   port_failed told [] qs (xs ∷ lists) (y ∷ ys) h e = absurd h
   port_failed told (p ∷ ps) [] (xs ∷ lists) (y ∷ ys) h e = absurd h
-  port_failed told (p ∷ ps) (q ∷ qs) (xs ∷ lists) (y ∷ ys) h e = by (is_port_fault y.end) refl
-    where
-      by : (b : Bool) → is_port_fault y.end ≡ b → OneHasFailed v (p ∷ ps) (q ∷ qs)
-      by true k = here p q ps qs (worker_failed told p q xs y h.0 k)
-      by false k = there p q ps qs (port_failed [] ps qs lists ys h.1 (ap (λ (b : Bool). b || list_any (λ y. is_port_fault y.end) ys) (sym k) ∙ e))
+  port_failed told (p ∷ ps) (q ∷ qs) (xs ∷ lists) (y ∷ ys) h e = by (is_port_fault y.end) refl (port_failed [] ps qs lists ys h.1)
+   where
+    by : (b : Bool) → is_port_fault y.end ≡ b → (list_any (λ y. is_port_fault y.end) ys ≡ true → OneHasFailed v ps qs) → OneHasFailed v (p ∷ ps) (q ∷ qs)
+    by true k rest = here p q ps qs (worker_failed told p q xs y h.0 k)
+    by false k rest = there p q ps qs (rest (ap (λ (b : Bool). b || list_any (λ y. is_port_fault y.end) ys) (sym k) ∙ e))
 
 -- ---- an opening that failed
 
