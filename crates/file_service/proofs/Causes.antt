@@ -1,5 +1,5 @@
 -- What shows why a run ended as it did: a port's count of failures has risen, the desk's has, or a budget was spent.
-use Rattle.std.proofs.Common.{◌≡◌, ◌⊎◌, ℕ, ◌+◌, ◌-◌, ◌^◌, ◌≤◌, min, Bool, true, false, List, [], ◌∷◌, Option, inl, inr, refl, sym, subst, ◌∙◌, arith}
+use Rattle.std.proofs.Common.{◌≡◌, ◌⊎◌, ℕ, Bool, true, false, List, [], ◌∷◌, Option, inl, inr, refl, sym, subst, ◌∙◌, arith}
 use Rattle.std.specs.List.{list_any}
 use Rattle.session_world.specs.Desk.{config_at}
 use Rattle.session_desk.specs.Book.{steps_of}

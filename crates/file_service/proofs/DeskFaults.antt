@@ -1,6 +1,6 @@
 -- A desk that ended since it failed too often has raised its count: each way in which its plan ends so goes through as many
 -- failures.
-use Rattle.std.proofs.Common.{◌≡◌, ℕ, zero, suc, ◌+◌, ◌-◌, ◌*◌, ◌^◌, ◌<◌, ◌≤◌, ◌==◌, ◌&&◌, ◌||◌, not, nat_le, min, Bool, true, false, if◌then◌else◌, List, [], ◌∷◌, ◌++◌, length, Option, Some, None, Result, Ok, Err, refl, sym, ap, subst, ◌∙◌, arith}
+use Rattle.std.proofs.Common.{◌≡◌, ℕ, zero, suc, ◌+◌, ◌-◌, ◌^◌, ◌≤◌, ◌==◌, nat_le, min, Bool, true, false, if◌then◌else◌, List, [], ◌∷◌, ◌++◌, length, Option, Some, None, Result, Ok, Err, refl, ap, subst, arith}
 use Rattle.std.proofs.lemmas.Bool.Decides.{nat_tests}
 use Rattle.refl_types.specs.declared.types.Address.{Address}
 use Rattle.refl_types.specs.declared.types.Key.{Key}
@@ -27,7 +27,6 @@ use Rattle.operator_lines.specs.declared.line.Line.{Line}
 use Rattle.operator_lines.specs.declared.line.Line.TheVariants as lines
 use Rattle.operator_lines.specs.declared.answer.Answer.{Answer}
 use Rattle.operator_lines.specs.declared.answer.Answer.TheVariants as answers
-use Rattle.operator_lines.specs.declared.answer.Refusal.{Refusal}
 use Rattle.operator_lines.specs.declared.answer.Refusal.TheVariants as refusals
 use Rattle.operator_lines.specs.Reading.{line_from}
 use Rattle.session_desk.specs.declared.session.NoSuch.{NoSuch}
@@ -50,11 +49,11 @@ use Rattle.control_desk.specs.declared.sides.OpenConnection.{OpenConnection}
 use Rattle.control_desk.specs.declared.sides.Side.{Side}
 use Rattle.control_desk.specs.declared.sides.Side.TheVariants.{Control, Operator}
 use Rattle.control_desk.specs.declared.own.OwnSession.{OwnSession}
-use Rattle.control_desk.specs.Plan.{Plan, hear, send, hang_up, reserve, start, abandon, set, close, close_at, count, tick, live_len, live_at, live_place, stop, Act, noted, called, IsNext, Leads, plus, counts_with, counts_after}
+use Rattle.control_desk.specs.Plan.{Plan, hear, send, hang_up, reserve, start, abandon, set, close, close_at, count, tick, live_len, live_at, live_place, stop, Act, noted, called, Leads, counts_with, counts_after}
 use Rattle.control_desk.specs.State.{Setting, DeskState, setting_of, first_state, config_in, side_in, with_side, without, with_name, with_connection, at_connections}
-use Rattle.control_desk.specs.Operator.{Next, say, refuse, reserve_refusal, set_refusal, config_from, name_limit, new_name, name_config, reserved_plan, open_under, open_plan, set_plan, set_under, number_plan, listed_plan, list_key, list_from, quit_plan, line_plan, read_plan, line_limit, behind_line, operator_plan}
-use Rattle.control_desk.specs.Control.{start_all, abandon_all, same_place, while_own, close_one, close_all, close_one_at, closing_moment, close_all_at, stop_all, end_all, hang_up_plan, Candidate, session_limit, NextAnswer, key_at, own_session, is_taken, tried, try_all, is_served, candidates, extra_of, between, under_twamp, request_plan, or_else, stage_behind, behind_reply, send_some, send_reply, reply_plan, with_own, without_own, asked_plan, message_plan, with_octet, control_plan}
-use Rattle.control_desk.specs.Run.{is_refused, begun, control_side, greet, opened_plan, bytes_plan, closed_plan, is_idle_side, hang_up_side, idle_plan, tick_plan, ticked_plan, event_plan, behind_event, is_over, desk_plan, no_counts}
+use Rattle.control_desk.specs.Operator.{Next, say, reserve_refusal, set_refusal, config_from, name_limit, new_name, name_config, reserved_plan, open_under, open_plan, set_plan, set_under, number_plan, listed_plan, list_key, list_from, line_plan, read_plan, line_limit, behind_line, operator_plan}
+use Rattle.control_desk.specs.Control.{start_all, abandon_all, same_place, while_own, close_all, closing_moment, close_all_at, stop_all, end_all, hang_up_plan, Candidate, session_limit, NextAnswer, key_at, own_session, is_taken, tried, try_all, is_served, candidates, extra_of, between, under_twamp, request_plan, or_else, stage_behind, behind_reply, send_some, reply_plan, with_own, without_own, asked_plan, message_plan, with_octet, control_plan}
+use Rattle.control_desk.specs.Run.{is_refused, begun, control_side, greet, opened_plan, bytes_plan, closed_plan, is_idle_side, hang_up_side, idle_plan, tick_plan, event_plan, behind_event, is_over, desk_plan, no_counts}
 
 -- ---- how many failures acts tell, and what is counted of them
 

@@ -1,15 +1,13 @@
 -- A worker that ended since its port failed has raised the port's count.
-use Rattle.std.proofs.Common.{◌≡◌, ℕ, zero, suc, ◌+◌, ◌-◌, ◌*◌, ◌^◌, ◌<◌, ◌≤◌, ◌==◌, ◌&&◌, ◌||◌, not, min, Bool, true, false, if◌then◌else◌, List, [], ◌∷◌, length, slice_index_or, Option, Some, None, Ok, Err, inl, inr, refl, sym, ap, subst, ◌∙◌, arith}
+use Rattle.std.proofs.Common.{◌≡◌, ℕ, zero, suc, ◌+◌, ◌<◌, ◌≤◌, ◌==◌, ◌&&◌, ◌||◌, not, Bool, true, false, if◌then◌else◌, List, [], ◌∷◌, Some, None, Ok, Err, inl, inr, refl, sym, ap, subst, ◌∙◌, arith}
 use Rattle.std.proofs.lemmas.Bool.{eqb-true}
 use Rattle.std.specs.List.{list_any}
 use Rattle.refl_types.specs.declared.config.ConfigParts.{ConfigParts}
 use Rattle.refl_types.specs.declared.outcome.Unanswered.TheVariants.{NoSession, Short, BadHmac, NoReply, Changed, SendFault}
 use Rattle.port_io.specs.Outside.{Rises}
-use Rattle.net_io.specs.Port.{PortEntry, read}
+use Rattle.net_io.specs.Port.{PortEntry}
 use Rattle.session_world.specs.declared.steps.Step.{Step}
-use Rattle.session_world.specs.Desk.{config_at}
 use Rattle.session_rule.specs.declared.seats.Table.{Table}
-use Rattle.session_desk.specs.Book.{steps_of}
 use Rattle.conf_text.specs.File.{File}
 use Rattle.receive_worker.specs.declared.tally.Tally.{Tally}
 use Rattle.receive_worker.specs.declared.tally.Begun.{Begun}
@@ -18,10 +16,10 @@ use Rattle.receive_worker.specs.declared.tally.WorkEnd.{WorkEnd}
 use Rattle.receive_worker.specs.declared.tally.WorkEnd.TheVariants.{End, Limit, Budget, PortFault}
 use Rattle.receive_worker.specs.Faults.{RisesBy}
 use Rattle.receive_worker.specs.Tally.{no_tally, with_begun}
-use Rattle.receive_worker.specs.Work.{Round, kind_of, with_round, tally_after, Progress, at_first, progress_by, progress, progress_after, due, due_by, is_over, EndsBy, IsEnd}
+use Rattle.receive_worker.specs.Work.{Round, kind_of, with_round, tally_after, Progress, at_first, progress_by, progress, progress_after, is_over, IsEnd}
 use Rattle.reflector_serve.specs.Ports.{PortView, OneFails}
 use Rattle.reflector_serve.specs.Served.{IsServed, AllServed}
-use Rattle.file_service.specs.Ends.{is_port_fault, is_spent}
+use Rattle.file_service.specs.Ends.{is_port_fault}
 use Rattle.file_service.specs.Service.{HasRisen, OneHasFailed}
 
 -- ---- failures in a row are among those that a tally counts
@@ -89,10 +87,10 @@ module _ {P S : Type 0} (v : PortView P S) (t : Table) (f : File) (config : ℕ 
   port_failed told [] qs (xs ∷ lists) (y ∷ ys) h e = absurd h
   port_failed told (p ∷ ps) [] (xs ∷ lists) (y ∷ ys) h e = absurd h
   port_failed told (p ∷ ps) (q ∷ qs) (xs ∷ lists) (y ∷ ys) h e = by (is_port_fault y.end) refl (port_failed [] ps qs lists ys h.1)
-   where
-    by : (b : Bool) → is_port_fault y.end ≡ b → (list_any (λ y. is_port_fault y.end) ys ≡ true → OneHasFailed v ps qs) → OneHasFailed v (p ∷ ps) (q ∷ qs)
-    by true k rest = here p q ps qs (worker_failed told p q xs y h.0 k)
-    by false k rest = there p q ps qs (rest (ap (λ (b : Bool). b || list_any (λ y. is_port_fault y.end) ys) (sym k) ∙ e))
+    where
+      by : (b : Bool) → is_port_fault y.end ≡ b → (list_any (λ y. is_port_fault y.end) ys ≡ true → OneHasFailed v ps qs) → OneHasFailed v (p ∷ ps) (q ∷ qs)
+      by true k rest = here p q ps qs (worker_failed told p q xs y h.0 k)
+      by false k rest = there p q ps qs (rest (ap (λ (b : Bool). b || list_any (λ y. is_port_fault y.end) ys) (sym k) ∙ e))
 
 -- ---- an opening that failed
 

@@ -1,5 +1,5 @@
 -- How a run is told to have ended, by its report: the status and the line (this project's own).
-use Rattle.std.specs.Prelude.{◌≡◌, ℕ, Bool, true, false, ◌||◌, if◌then◌else◌, List, codes, ◌++◌, Option}
+use Rattle.std.specs.Prelude.{◌≡◌, ℕ, Bool, true, false, if◌then◌else◌, List, codes, ◌++◌, Option}
 use Rattle.std.specs.List.{list_any}
 use Rattle.conf_check.specs.Lines.{line_end}
 use Rattle.conf_check.specs.Writing.{WritesLine, WritesNothing}

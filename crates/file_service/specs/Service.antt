@@ -1,5 +1,5 @@
 -- What serving by a file comes to: what was served, and what was written (this project's own).
-use Rattle.std.specs.Prelude.{◌≡◌, ◌⊎◌, ℕ, ◌<◌, ◌≤◌, List, length, slice_index_or, Option, codes}
+use Rattle.std.specs.Prelude.{◌≡◌, ℕ, ◌<◌, ◌≤◌, List, length, slice_index_or, Option, codes}
 use Rattle.std.specs.Io.KnownBytes.{Appends}
 use Rattle.port_io.specs.Outside.{counted, Rises, AppendsFront}
 use Rattle.port_io.specs.Files as port
@@ -7,7 +7,7 @@ use Rattle.conf_text.specs.Faults.{Limit}
 use Rattle.conf_text.specs.File.{File}
 use Rattle.conf_check.specs.Lines.{fault_line}
 use Rattle.conf_check.specs.Loading.{IsAccepted}
-use Rattle.conf_check.specs.Writing.{WritesLine, WritesNothing}
+use Rattle.conf_check.specs.Writing.{WritesLine}
 use Rattle.reflector_serve.specs.Ports.{PortView, OneFails}
 use Rattle.reflector_serve.specs.Served.{DeskView, AreQuiet, HasNotOpened, Served}
 use Rattle.reflector_serve.specs.declared.report.Report.{Report}

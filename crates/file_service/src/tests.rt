@@ -219,7 +219,8 @@ fn a_report_that_cannot_be_written_ends_with_8(rt: HostRuntime) -> Result<(), Fa
     )
 }
 
-const WAITING: &str = "locals = [\"192.0.2.10:862\"]\nworkers = 1\n[configs.edge]\n[[sessions]]\npeer = \"198.51.100.1:5000\"\nconfig = \"edge\"\nwait = 10\n";
+const WAITING: &str =
+    "locals = [\"192.0.2.10:862\"]\nworkers = 1\n[configs.edge]\n[[sessions]]\npeer = \"198.51.100.1:5000\"\nconfig = \"edge\"\nwait = 10\n";
 
 /// A port that tells the moment of the opening, and then its end.
 fn port_at(alloc: Global, moment: u64) -> Result<ScriptPort, Fail> {
@@ -265,8 +266,7 @@ fn a_session_expires_at_the_tick_by_which_its_wait_has_passed(rt: HostRuntime) -
     for (ticks, written) in [
         (
             [14_999_999_999, 15_000_000_000].as_slice(),
-            b"worker 0 taken 0 sent 0 nosession 0 short 0 badhmac 0 changed 0 noreply 0 sendfault 0 recvfault 0 end\ndesk events 3 faults 0 end\nsessions live 0 closed 0 expired 1\n"
-                .as_slice(),
+            b"worker 0 taken 0 sent 0 nosession 0 short 0 badhmac 0 changed 0 noreply 0 sendfault 0 recvfault 0 end\ndesk events 3 faults 0 end\nsessions live 0 closed 0 expired 1\n".as_slice(),
         ),
         (
             &[14_999_999_999],
@@ -279,7 +279,13 @@ fn a_session_expires_at_the_tick_by_which_its_wait_has_passed(rt: HostRuntime) -
         ports.push(port_at(alloc, 5_000_000_000)?)?;
         let mut desk = ticking_desk(alloc, ticks)?;
         let status = run_file(
-            &rt, alloc, NAME, &mut files, &mut out, ports.as_mut_slice(), &mut desk,
+            &rt,
+            alloc,
+            NAME,
+            &mut files,
+            &mut out,
+            ports.as_mut_slice(),
+            &mut desk,
         );
         assert_eq!(rt; status, 0);
         assert_eq!(rt; out.written(), written);
