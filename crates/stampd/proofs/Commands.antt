@@ -2,7 +2,7 @@
 use Rattle.std.proofs.Common.{◌≡◌, ℕ, List, [], ◌∷◌, length, codes, sym, ap, ◌∙◌, arith}
 use Rattle.stampd.specs.Command.{IsReplay, IsCheck, IsRun}
 
-first_length : List (List ℕ) → ℕ
+abbrev first_length : List (List ℕ) → ℕ
 first_length [] = 0
 first_length (word ∷ words) = length word
 

@@ -47,24 +47,40 @@ fn command_words(rt: HostRuntime, alloc: Global) -> Result<Vec<String>, Memory> 
     Ok(words)
 }
 
-/// Makes the real objects and runs the command of the words.
-fn run(rt: HostRuntime) -> Result<u8, Memory> {
-    let alloc = rt.alloc();
-    let words = command_words(rt, alloc)?;
-    let mut input = StdSource::make(rt, alloc)?;
-    let mut out = StdSink::make(rt, alloc)?;
-    let mut files = DiskFiles::make(rt, alloc)?;
-    let ends = Ends::make(alloc)?;
-    let mut ports = make_ports(rt, alloc, &ends)?;
-    let mut desk = TcpDesk::make(rt, alloc, &ends)?;
-    Ok(stampd(
-        &rt, alloc, &words, &mut input, &mut out, &mut files, ports.as_mut_slice(), &mut desk,
-    ))
-}
+/// The status where there is no memory for the real objects.
+const NO_MEMORY: u8 = 4;
 
 fn main(rt: HostRuntime) -> ExitCode {
-    match run(rt) {
-        Ok(status) => ExitCode::from(status),
-        Err(_) => ExitCode::from(4),
-    }
+    let alloc = rt.alloc();
+    let Ok(words) = command_words(rt, alloc) else {
+        return ExitCode::from(NO_MEMORY);
+    };
+    let Ok(mut input) = StdSource::make(rt, alloc) else {
+        return ExitCode::from(NO_MEMORY);
+    };
+    let Ok(mut out) = StdSink::make(rt, alloc) else {
+        return ExitCode::from(NO_MEMORY);
+    };
+    let Ok(mut files) = DiskFiles::make(rt, alloc) else {
+        return ExitCode::from(NO_MEMORY);
+    };
+    let Ok(ends) = Ends::make(alloc) else {
+        return ExitCode::from(NO_MEMORY);
+    };
+    let Ok(mut ports) = make_ports(rt, alloc, &ends) else {
+        return ExitCode::from(NO_MEMORY);
+    };
+    let Ok(mut desk) = TcpDesk::make(rt, alloc, &ends) else {
+        return ExitCode::from(NO_MEMORY);
+    };
+    ExitCode::from(stampd(
+        &rt,
+        alloc,
+        &words,
+        &mut input,
+        &mut out,
+        &mut files,
+        ports.as_mut_slice(),
+        &mut desk,
+    ))
 }
