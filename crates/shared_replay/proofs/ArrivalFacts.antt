@@ -62,7 +62,6 @@ pub record Leaves (t : Table) (d : Datagram) (a : answers.Answer) (c : Book) : T
 module _ (bound : OneBound) (t : Table) (d : Datagram) (b c : Book) (same : IsSameBook b c) (h : HoldsTable b t) (keyed : AreKeyed t.sessions)
     (between : IsBetween b.size (steps_of c) (joined_parts c.seat)) (xs : List (Answer ℕ))
     (turned : HasTurned (config_at (steps_of b)) (table_of b.size.slots (steps_of b) (joined_parts b.seat)) (table_of b.size.slots (steps_of c) (joined_parts c.seat)) xs) where
-
   holds : (es : List Entry) → Tracks (table_of b.size.slots (steps_of c) (joined_parts c.seat)) es → keys_of es ≡ keys_of t.sessions → HoldsTable c (with_sessions t es)
   holds es tracks keys = record {
     follows = subst (λ z. Follows z (steps_of c) (joined_parts c.seat) es) (sym same.size) (record { between = between; tracks = tracks });

@@ -7,3 +7,4 @@ pub mod AnswerFacts
 pub mod DeskFacts
 pub mod RecordFacts
 pub mod ReplyFacts
+pub mod SeenFacts
