@@ -1,5 +1,5 @@
 -- What an opening, a setting and a closing are answered, by what the book tells of its keys and rows.
-use Rattle.std.proofs.Common.{◌≡◌, ◌⊎◌, inl, inr, ⊎_elim, ℕ, zero, suc, ◌*◌, ◌<◌, ◌≤◌, eqb, ltb, Bool, true, false, ◌&&◌, ◌||◌, not, ◌==◌, if◌then◌else◌, List, [], ◌∷◌, ◌++◌, length, map, sym, refl, ap, ◌∙◌, subst, arith, Option, Some, None, Result, Ok, Err, eq-eqb}
+use Rattle.std.proofs.Common.{◌≡◌, ◌≢◌, ◌⊎◌, inl, inr, ⊎_elim, ℕ, zero, suc, ◌*◌, ◌<◌, ◌≤◌, eqb, ltb, Bool, true, false, ◌&&◌, ◌||◌, not, ◌==◌, if◌then◌else◌, List, [], ◌∷◌, ◌++◌, length, map, sym, refl, ap, ◌∙◌, subst, arith, Option, Some, None, Result, Ok, Err, eq-eqb, ne_eqb}
 use Rattle.std.proofs.lemmas.Bool.{ltb-false}
 use Rattle.std.proofs.lemmas.List.Elements.{Contains-push_cases}
 use Rattle.std.specs.List.{Contains, list_any, find}
@@ -34,9 +34,10 @@ use Rattle.replay_format.specs.declared.code.OpenAnswer.{OpenAnswer}
 use Rattle.replay_format.specs.declared.code.OpenAnswer.TheVariants as opens
 use Rattle.replay_format.specs.Records.{Opening}
 use Rattle.replay_table.specs.Table.{Entry, Table, is_bound, has_clash, is_accepted, may_accept, accept}
-use Rattle.replay_table.specs.Outcomes.{session_limit, lacks_key, open_answer_of, open_answer}
+use Rattle.replay_table.specs.Outcomes.{session_limit, lacks_key, open_answer_of, open_answer, after_opening}
+use Rattle.replay_table.proofs.AnswerFacts.{refused_opening}
 use Rattle.replay_table.proofs.ConfigFacts.{known_accepted, sought_open, accept_known, accept_next}
-use Rattle.shared_replay.specs.Stands.{live_keys, keys_of, HoldsTable, refusal}
+use Rattle.shared_replay.specs.Stands.{live_keys, keys_of, HoldsTable, HasOpened, refusal}
 use Rattle.shared_replay.proofs.KeyFacts.{any_map, length_map, few_live}
 
 -- ---- lists
@@ -184,3 +185,32 @@ module _ (b : Book) (t : Table) (o : Opening) (fits : BookFits b) (nobody : b.re
 
 pub how_many : (b : Book) (t : Table) → HoldsTable b t → length t.sessions ≡ length b.live
 how_many b t h = sym (few_live b (keys_of t.sessions) h.keys ∙ length_map (λ (e : Entry). e.key) t.sessions)
+
+-- an opening that is refused leaves the table
+pub refusal_not : (f : ReserveFault) → refusal f ≡ opens.Opened → ⊥
+refusal_not (faults.Duplicate j) e = cc
+refusal_not (faults.ModeClash j) e = cc
+refusal_not faults.NoKey e = cc
+refusal_not faults.RowsFull e = cc
+refusal_not (faults.Full live reserved retired held) e = cc
+
+pub refused_holds : (b : Book) (t : Table) (o : Opening) (a : OpenAnswer) → HoldsTable b t → a ≡ open_answer t o → (a ≡ opens.Opened → ⊥) → HasOpened t o a b
+refused_holds b t o a h is other = record {
+  answer = is;
+  holds = subst (HoldsTable b) (sym (refused_opening (open_answer t o) t o (λ e. other (is ∙ e)))) h;
+}
+
+pub opened_holds : (b : Book) (t : Table) (o : Opening) (a : OpenAnswer) → a ≡ opens.Opened → open_answer t o ≡ opens.Opened → HoldsTable b (after_opening opens.Opened t o) → HasOpened t o a b
+opened_holds b t o a was is h = record {
+  answer = was ∙ sym is;
+  holds = subst (λ (x : OpenAnswer). HoldsTable b (after_opening x t o)) (sym is) h;
+}
+
+full_not : opens.Full ≡ opens.Opened → ⊥
+full_not e = cc
+
+pub full_holds : (b : Book) (t : Table) (o : Opening) → HoldsTable b t → open_answer t o ≡ (if length t.sessions == session_limit then opens.Full else opens.Opened) → length t.sessions ≡ 1024 → HasOpened t o opens.Full b
+full_holds b t o h is many = refused_holds b t o opens.Full h (sym (is ∙ rw (eq-eqb (length t.sessions) 1024 many) refl)) full_not
+
+pub not_full : (t : Table) (o : Opening) → open_answer t o ≡ (if length t.sessions == session_limit then opens.Full else opens.Opened) → length t.sessions ≢ 1024 → open_answer t o ≡ opens.Opened
+not_full t o is few = is ∙ rw (ne_eqb (length t.sessions) 1024 few) refl

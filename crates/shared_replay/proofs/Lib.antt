@@ -8,3 +8,5 @@ pub mod DeskFacts
 pub mod RecordFacts
 pub mod ReplyFacts
 pub mod SeenFacts
+pub mod WholeTurns
+pub mod Standing

@@ -15,6 +15,7 @@ use replay_table::law_apart;
 use session_desk::DeskBook;
 use session_rule::{Table, TableSize, open_table};
 use session_table::KnownRows;
+use session_world::law_begins;
 use std::alloc::Global;
 use std::marker::Model;
 
@@ -67,6 +68,7 @@ impl Sessions {
     pub fn make(alloc: Global) -> Result<Sessions, Memory>
         ensures { IfOk result (λ s. Stands s []) }
     {
+        law_begins();
         let Ok((table, seat)) = open_table(alloc, SIZE) else {
             return Err(Memory);
         };
