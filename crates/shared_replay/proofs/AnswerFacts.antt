@@ -127,10 +127,10 @@ room_some b t c allowed sound fits limit same some = ap (may_accept c) (sym same
       let x = no_or (is_accepted c b.rows.configs) (ltb (length b.rows.configs) 1024) n in
       let none : HasNoRow b.rows c = λ row is. true_ne_false (sym (known_accepted b.rows c row is) ∙ x.0) in
       let inside = rows_inside b allowed sound fits in
-      absurd (some (none, full (bool (ltb (length b.rows.configs) 1024)) x.1 inside))
+      absurd (some (none, full x.1 inside))
     where
-      full : _ → ltb (length b.rows.configs) 1024 ≡ false → length b.rows.configs ≤ b.rows.limit → length b.rows.configs ≡ b.rows.limit
-      full u e inside = let m : 1024 ≤ length b.rows.configs = ltb-false (length b.rows.configs) 1024 e in omega (arith, m, inside, limit)
+      full : ltb (length b.rows.configs) 1024 ≡ false → length b.rows.configs ≤ b.rows.limit → length b.rows.configs ≡ b.rows.limit
+      full e inside = let m : 1024 ≤ length b.rows.configs = ltb-false (length b.rows.configs) 1024 e in omega (arith, m, inside, limit)
 
 -- the configurations after one has a row
 pub row_accepts : (b c : Book) (t : Table) (x : ConfigParts) (row : ℕ) (made : List Step) → b.rows.configs ≡ t.configs → HasRow b.rows c.rows x row made → c.rows.configs ≡ accept x t.configs

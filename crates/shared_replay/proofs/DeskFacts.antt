@@ -63,9 +63,9 @@ plain_row {rows} {rows'} {c} {row} {made} h = ⊎_elim
     h
 
 reserves_then : (xs ds : List Step) → reserves_in (xs ++ ds) ≡ reserves_in xs + reserves_in ds
-reserves_then [] ds = refl
-reserves_then (ReserveNew slot row ∷ xs) ds = ap suc (reserves_then xs ds)
-reserves_then (ReserveUsed slot generation row ∷ xs) ds = ap suc (reserves_then xs ds)
+reserves_then [] ds = omega arith
+reserves_then (ReserveNew slot row ∷ xs) ds = let h = reserves_then xs ds in omega (arith, h)
+reserves_then (ReserveUsed slot generation row ∷ xs) ds = let h = reserves_then xs ds in omega (arith, h)
 reserves_then (s ∷ xs) ds = reserves_then xs ds
 
 none_in_keys : (slot : ℕ) (words : List ℕ) (n : ℕ) → reserves_in (key_writes slot words n) ≡ 0
@@ -126,8 +126,8 @@ desk_after {t} {b} {c} {more} law stay desk k same nobody few = record {
 pub same_desk : {t : rule.Table} {b c : Book} → IsDesk t b → c ≡ b → IsDeskAfter t b c
 same_desk {t} {b} {c} desk e = subst (λ (x : Book). IsDeskAfter t b x) (sym e) (record { desk = desk; rows = λ known kept. kept })
 
-at_size : {b c : Book} {es : List Entry} → c.size ≡ b.size → Follows b.size (steps_of c) (joined_parts c.seat) es → Follows c.size (steps_of c) (joined_parts c.seat) es
-at_size {b} {c} {es} e h = subst (λ (z : TableSize). Follows z (steps_of c) (joined_parts c.seat) es) (sym e) h
+at_size : {y z : TableSize} {ds : List Step} {ps : List Part} {es : List Entry} → y ≡ z → Follows z ds ps es → Follows y ds ps es
+at_size {y} {z} {ds} {ps} {es} e h = subst (λ (x : TableSize). Follows x ds ps es) (sym e) h
 
 -- ---- a session that is reserved and started
 
@@ -139,7 +139,7 @@ pub record Begun (t : rule.Table) (b m c : Book) (k : Key) (x : Extra) (f : Conf
   pub fits_after : BookFits c
 
 module _ {t : rule.Table} {b m c : Book} {k : Key} {x : Extra} {f : ConfigParts} {p : Place} (g : Begun t b m c k x f p) (desk : IsDesk t b) where
-  first_steps : List Step
+  abbrev first_steps : List Step
   first_steps = reserve_step p g.reserved.row ∷ (key_writes p.slot (key_words k x) 4 ++ (g.reserved.made ++ scans_of b.size.workers g.reserved.words))
 
   first_call : IsBookCall b m first_steps
@@ -212,7 +212,7 @@ module _ {t : rule.Table} {b m c : Book} {k : Key} {x : Extra} {f : ConfigParts}
       let e : Entry = record { key = k; extra = x; config = f; count = 0 } in
       let v : Table = record { sessions = with_entry e u.sessions; configs = accept f u.configs; locals = u.locals } in
       let held : HoldsTable c v = record {
-        follows = at_size {b} {c} both_calls.size (opened_here k x f g.reserved.row law h.follows (call_of both_calls) free one_more configured_so);
+        follows = at_size both_calls.size (opened_here k x f g.reserved.row law h.follows (call_of both_calls) free one_more configured_so);
         keys = keys_more ∙ ap (λ (l : List Key). l ++ k ∷ []) h.keys ∙ sym (keys_added u.sessions e);
         configs = ap (λ (r : Rows). r.configs) g.started.rows ∙ row_accepts b m u f g.reserved.row g.reserved.made h.configs g.reserved.kept;
       } in
@@ -283,12 +283,18 @@ none_out : (k : Key) (es : List Entry) → is_bound k es ≡ false → table.wit
 none_out k [] e = refl
 none_out k (d ∷ es) e = let x = no_or (same_key d.key k) (is_bound k es) e in rw x.0 (ap (λ (l : List Entry). d ∷ l) (none_out k es x.1))
 
-module _ {t : rule.Table} {b c : Book} (desk : IsDesk t b) (fits : BookFits b) (fits_after : BookFits c) {k : Key} where
-  row_limit : b.rows.limit ≡ 1024
-  row_limit = fits.rows.limit ∙ desk.rows
+row_limit : {t : rule.Table} {b : Book} → IsDesk t b → BookFits b → b.rows.limit ≡ 1024
+row_limit desk fits = fits.rows.limit ∙ desk.rows
 
+not_set : (b c : Book) (u : Table) (x : Setting) (a : SetAnswer) → HoldsTable b u → c ≡ b → set_answer u x ≡ a → after_setting a u x ≡ u → HasSet u x a c
+not_set b c u x a h same is left = record {
+  answer = sym is;
+  holds = subst (HoldsTable c) (sym (ap (λ (y : SetAnswer). after_setting y u x) is ∙ left)) (subst (λ (y : Book). HoldsTable y u) (sym same) h);
+}
+
+module _ {t : rule.Table} {b c : Book} (desk : IsDesk t b) (fits : BookFits b) (fits_after : BookFits c) {k : Key} where
   module _ {f : ConfigParts} (s : calls.HasSet t b k f c) where
-    set_steps : List Step
+    abbrev set_steps : List Step
     set_steps = Reconfigure s.session.place.slot s.session.row s.row s.word ∷ s.made
 
     set_call : IsBookCall b c set_steps
@@ -317,32 +323,26 @@ module _ {t : rule.Table} {b c : Book} (desk : IsDesk t b) (fits : BookFits b) (
     pub has_set : (u : Table) → CallsTell → DeskIsAllowed → SlotsAreSound → HoldsTable b u → HasSet u (record { key = k; config = f }) sets.Set c
     has_set u law allowed sound h =
         let x : Setting = record { key = k; config = f } in
-        let is : set_answer u x ≡ sets.Set = set_by (is_bound k u.sessions) (may_accept f u.configs) x (sym (live_is b u k h) ∙ found_live b k s.session s.found s.key) (lacks_none k f s.no_cause.keyed) (room_some b u f allowed sound fits row_limit h.configs s.no_cause.room) in
+        let is : set_answer u x ≡ sets.Set = set_by (is_bound k u.sessions) (may_accept f u.configs) x (sym (live_is b u k h) ∙ found_live b k s.session s.found s.key) (lacks_none k f s.no_cause.keyed) (room_some b u f allowed sound fits (row_limit desk fits) h.configs s.no_cause.room) in
         record {
           answer = sym is;
           holds = subst (λ (a : SetAnswer). HoldsTable c (after_setting a u x)) (sym is) (record {
-            follows = at_size {b} {c} s.size (configured_here k f s.row law h.follows (call_of set_call) s.answers configured_to);
+            follows = at_size s.size (configured_here k f s.row law h.follows (call_of set_call) s.answers configured_to);
             keys = set_keys ∙ h.keys ∙ sym (keys_updated k (table.configured f) (λ e. refl) u.sessions);
             configs = row_accepts b c u f s.row s.made h.configs s.kept;
           });
         }
 
-  not_set : (u : Table) (x : Setting) (a : SetAnswer) → HoldsTable b u → c ≡ b → set_answer u x ≡ a → after_setting a u x ≡ u → HasSet u x a c
-  not_set u x a h same is left = record {
-    answer = sym is;
-    holds = subst (HoldsTable c) (sym (ap (λ (y : SetAnswer). after_setting y u x) is ∙ left)) (subst (λ (y : Book). HoldsTable y u) (sym same) h);
-  }
-
   pub set_refused : (u : Table) (f : ConfigParts) (fault : SetFault) → HoldsTable b u → c ≡ b → IsSetRefused b k f fault → HasSet u (record { key = k; config = f }) (set_refusal fault) c
   set_refused u f set_faults.NoSuch h same r =
       let x : Setting = record { key = k; config = f } in
-      not_set u x sets.NoSuch h same (set_by (is_bound k u.sessions) (may_accept f u.configs) x (sym (live_is b u k h) ∙ r) refl refl) refl
+      not_set b c u x sets.NoSuch h same (set_by (is_bound k u.sessions) (may_accept f u.configs) x (sym (live_is b u k h) ∙ r) refl refl) refl
   set_refused u f set_faults.NoKey h same r =
       let x : Setting = record { key = k; config = f } in
-      not_set u x sets.NoKey h same (set_by (is_bound k u.sessions) (may_accept f u.configs) x (sym (live_is b u k h) ∙ r.0) (lacks k f r.1) refl) refl
+      not_set b c u x sets.NoKey h same (set_by (is_bound k u.sessions) (may_accept f u.configs) x (sym (live_is b u k h) ∙ r.0) (lacks k f r.1) refl) refl
   set_refused u f set_faults.RowsFull h same r =
       let x : Setting = record { key = k; config = f } in
-      not_set u x sets.RowsFull h same (set_by (is_bound k u.sessions) (may_accept f u.configs) x (sym (live_is b u k h) ∙ r.0) (lacks_none k f r.1) (room_none b u f row_limit h.configs r.2)) refl
+      not_set b c u x sets.RowsFull h same (set_by (is_bound k u.sessions) (may_accept f u.configs) x (sym (live_is b u k h) ∙ r.0) (lacks_none k f r.1) (room_none b u f (row_limit desk fits) h.configs r.2)) refl
 
   -- ---- a live session is closed
 
@@ -370,7 +370,7 @@ module _ {t : rule.Table} {b c : Book} (desk : IsDesk t b) (fits : BookFits b) (
         record {
           count_is = sym (ap count_of x.0.1 ∙ ap (λ (m : ℕ). Some m) x.0.2);
           holds = record {
-            follows = at_size {b} {c} s.size x.1;
+            follows = at_size s.size x.1;
             keys = close_keys ∙ ap (filter (λ j. not (same_key j k))) h.keys ∙ sym (keys_without k u.sessions apart);
             configs = ap (λ (r : Rows). r.configs) s.rows ∙ h.configs;
           };

@@ -137,12 +137,15 @@ without_for k (e ∷ es) j apart = ⊎_elim
     (bool (same_key e.key j)))
     (bool (same_key e.key k))
 
+at_there : (e : Entry) (es : List Entry) (k : Key) → same_key e.key k ≡ false → session_at k (e ∷ es) ≡ session_at k es
+at_there e es k y = rw y refl
+
 -- a key that is bound has an entry
 pub entry_of : (es : List Entry) (k : Key) (b : Session ConfigParts) → entry_for k es ≡ Some b → (e : Entry) × (session_at k es ≡ Some e) × (session_of_entry e ≡ b)
 entry_of [] k b at = absurd (none-some b at)
 entry_of (e ∷ es) k b at = ⊎_elim
     (λ y. (e, rw y refl, some_same (sym (entry_here e es k y) ∙ at)))
-    (λ y. let r = entry_of es k b (sym (entry_there e es k y) ∙ at) in (r.0, rw y r.1, r.2))
+    (λ y. let r = entry_of es k b (sym (entry_there e es k y) ∙ at) in (r.0, at_there e es k y ∙ r.1, r.2))
     (bool (same_key e.key k))
 
 pub at_none : (es : List Entry) (k : Key) → is_bound k es ≡ false → session_at k es ≡ None

@@ -6,7 +6,16 @@ use Rattle.refl_types.specs.declared.types.Endpoint.{Endpoint}
 use Rattle.reflect_core.specs.declared.judging.Judged.{Judged}
 use Rattle.reflect_core.specs.declared.judging.Judged.TheVariants.{Reflect, Silent}
 use Rattle.reflect_core.specs.Judgement.{judgement}
+use Rattle.session_world.specs.declared.steps.TableSize.{TableSize}
+use Rattle.session_world.specs.declared.steps.Step.{Step}
+use Rattle.session_world.specs.declared.steps.Part.{Part}
+use Rattle.session_world.specs.Sizes.{IsWithinLimits}
+use Rattle.session_world.specs.OneThread.{Begins}
+use Rattle.session_rule.specs.declared.seats.Seat.{Seat}
+use Rattle.session_rule.specs.Seats.{desk_steps, joined_parts}
 use Rattle.session_desk.specs.Book.{Book, steps_of}
+use Rattle.session_desk.specs.Parting.{first_book}
+use Rattle.shared_replay.specs.Following.{Follows}
 use Rattle.session_desk.specs.Fits.{reserves_in}
 use Rattle.replay_format.specs.declared.code.OpenAnswer.{OpenAnswer}
 use Rattle.replay_format.specs.declared.code.OpenAnswer.TheVariants as opens
@@ -136,3 +145,20 @@ listed_all records old new ls before written n st book locals octets len =
 -- the same record
 pub for_item : {records : List Item} {new : Kept} {before written : List ℕ} {n : ℕ} (a b : Item) → b ≡ a → IsAnswered records new a before written n → IsAnswered records new b before written n
 for_item {records} {new} {before} {written} {n} a b e is = subst (λ (i : Item). IsAnswered records new i before written n) (sym e) is
+
+-- ---- at first
+
+pub stands_first : (z : TableSize) (seat : Seat) (known_book : Book) (locals : List Endpoint) → Begins → IsWithinLimits z → z.workers ≡ 1 → desk_steps seat ≡ [] → joined_parts seat ≡ [] → known_book ≡ first_book seat z → locals ≡ []
+    → Stands (record { book = known_book; locals = locals }) []
+unfolding table_after
+stands_first z seat book locals law within one steps parts is none =
+    let held : HoldsTable (first_book seat z) empty_table = record {
+      follows = subst (λ (x : List Step × List Part). Follows z x.0 x.1 []) (λ i. (sym steps i, sym parts i)) (record { between = law z within one; tracks = λ k. refl });
+      keys = refl;
+      configs = refl;
+    } in
+    record {
+      holds = subst (λ (b : Book). HoldsTable b empty_table) (sym is) held;
+      locals = none;
+      reserves = let n = ap (λ (b : Book). reserves_in (steps_of b)) is in let m = ap reserves_in steps in omega (arith, n, m);
+    }

@@ -145,6 +145,7 @@ module _ {z : TableSize} {ds : List Step} {ps : List Part} {es : List Entry} (h 
     pub tracks : Tracks u (update saw.entry.key raised es)
 
   pub drew_here : OneBound → (q : Query) (k : Key) (x : Extra) (r number s : ℕ) → ys ≡ drew k number s ∷ seen q k x r ∷ [] → Drew q k x (config_at ds r) (config_at ds s) number
+  unfolding saw_by sight
   drew_here bound q k x r number s e =
       let y = turned.drew_it q k x r number s e in
       let b = y.0.0 in

@@ -16,11 +16,8 @@ returns-in-Err-clause-opened c = λ t h few.
     let f = c.in-Err.fault in
     refused_holds b t o c.refusal.result h (c.refusal.ensures ∙ refused b t o fits c.requires.desk.nobody limit h f (c.in-Err.ensures c.args.table.now).0) (λ e. refusal_not f (sym c.refusal.ensures ∙ e))
 
-pub returns-then-clause-after : goal.returns-then-clause-after
-returns-then-clause-after c = same_desk c.requires.desk refl
-
-pub returns-then-clause-opened : goal.returns-then-clause-opened
-returns-then-clause-opened c = λ t h few.
+pub returns-then-live_len-eq-SESSIONS-clause-opened : goal.returns-then-live_len-eq-SESSIONS-clause-opened
+returns-then-live_len-eq-SESSIONS-clause-opened c = λ t h few.
     let b = c.args.book.now in
     let o : Opening = record { key = c.args.key.now; extra = c.args.extra.now; config = c.args.config.now } in
     let fits = c.law_fits.ensures in

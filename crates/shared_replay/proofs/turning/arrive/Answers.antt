@@ -1,8 +1,9 @@
 use Rattle.replay_format.specs.Records.{Datagram, datagram_of}
 use Rattle.shared_replay.proofs.WholeTurns.{IsWhole, kept_after, sent_fits, sent_arrives, unsent_arrives}
 use Rattle.shared_replay.proofs.turning.arrive.Goals as goal
+use Rattle.shared_replay.proofs.turning.arrive.Goals.{After-join}
 
-whole : (c : goal.After-join) → IsWhole c.args.table.now c.args.book.now c.split.new.self c.join.new.self c.in-Ok.worker c.turn-turned.new.worker
+whole : (c : After-join) → IsWhole c.args.table.now c.args.book.now c.split.new.self c.join.new.self c.in-Ok.worker c.turn-turned.new.worker
 whole c = record { desk = c.requires.desk; split = c.in-Ok.ensures.split_off; number = c.turn-turned.ensures.number; joined = c.join.ensures.joined }
 
 pub returns-in-Ok-turned-clause-known : goal.returns-in-Ok-turned-clause-known

@@ -37,3 +37,12 @@ returns-in-Locals-clause-answered c = λ records st within.
     let w = c.write_outcome-in-Locals in
     for_item _ _ (ap item_of c.in-Locals.is)
     (listed_all records _ _ ls c.args.out.now w.new.out w.result was refl refl w.ensures.octets w.ensures.len)
+
+pub invariant_of-self : goal.invariant_of-self
+invariant_of-self c = let a = c.open-answer.ensures.after in (a.desk, a.rows c.self.inside.known c.self.invariant.1, c.self.invariant.2)
+
+pub invariant_of-self-in-Set : goal.invariant_of-self-in-Set
+invariant_of-self-in-Set c = let a = c.set-answer.ensures.after in (a.desk, a.rows c.self-in-Set.inside.known c.self-in-Set.invariant.1, c.self-in-Set.invariant.2)
+
+pub invariant_of-self-in-Close : goal.invariant_of-self-in-Close
+invariant_of-self-in-Close c = let a = c.close-count.ensures.after in (a.desk, a.rows c.self-in-Close.inside.known c.self-in-Close.invariant.1, c.self-in-Close.invariant.2)
