@@ -144,7 +144,7 @@ module _ {t : rule.Table} {b m c : Book} {k : Key} {x : Extra} {f : ConfigParts}
 
   first_call : IsBookCall b m first_steps
   first_call = record {
-    plain = plain_reserve p g.reserved.row _ (plain_then (key_writes p.slot (key_words k x) 4) _ (plain_keys p.slot (key_words k x) 4) (plain_then g.reserved.made _ (plain_row g.reserved.kept) (plain_scans b.size.workers g.reserved.words)));
+    plain = plain_reserve p g.reserved.row (key_writes p.slot (key_words k x) 4 ++ (g.reserved.made ++ scans_of b.size.workers g.reserved.words)) (plain_then (key_writes p.slot (key_words k x) 4) (g.reserved.made ++ scans_of b.size.workers g.reserved.words) (plain_keys p.slot (key_words k x) 4) (plain_then g.reserved.made (scans_of b.size.workers g.reserved.words) (plain_row g.reserved.kept) (plain_scans b.size.workers g.reserved.words)));
     steps = g.reserved.added.steps;
     joined = g.reserved.added.joined;
     size = g.reserved.size;

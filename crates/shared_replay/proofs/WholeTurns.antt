@@ -32,6 +32,9 @@ pub record IsWhole (t : rule.Table) (b m c : Book) (v w : WorkerSeat) : Type 0 w
   pub number : worker_number w ≡ worker_number v
   pub joined : IsJoined t m w c
 
+pub whole_by : {t : rule.Table} {b m c : Book} {v w : WorkerSeat} → IsDesk t b → HasSplit t b m v → worker_number w ≡ worker_number v → IsJoined t m w c → IsWhole t b m c v w
+whole_by desk split number joined = record { desk = desk; split = split; number = number; joined = joined }
+
 module _ {t : rule.Table} {b m c : Book} {v w : WorkerSeat} (whole : IsWhole t b m c v w) where
   size_is : size_of t ≡ b.size
   size_is = whole.desk.same.1
