@@ -1,5 +1,5 @@
 -- What an opening, a setting and a closing are answered, by what the book tells of its keys and rows.
-use Rattle.std.proofs.Common.{◌≡◌, ◌≢◌, ◌⊎◌, inl, inr, ⊎_elim, ℕ, zero, suc, ◌*◌, ◌<◌, ◌≤◌, eqb, ltb, Bool, true, false, ◌&&◌, ◌||◌, not, ◌==◌, if◌then◌else◌, List, [], ◌∷◌, ◌++◌, length, map, sym, refl, ap, ◌∙◌, subst, arith, Option, Some, None, Result, Ok, Err, eq-eqb, ne_eqb}
+use Rattle.std.proofs.Common.{◌≡◌, ◌≢◌, ◌⊎◌, inl, inr, ⊎_elim, ℕ, zero, suc, ◌≤◌, ltb, Bool, true, false, ◌&&◌, ◌||◌, not, ◌==◌, if◌then◌else◌, List, [], ◌∷◌, length, sym, refl, ap, ◌∙◌, subst, arith, Option, Some, None, eq-eqb, ne_eqb}
 use Rattle.std.proofs.lemmas.Bool.{ltb-false}
 use Rattle.std.proofs.lemmas.List.Elements.{Contains-push_cases}
 use Rattle.std.specs.List.{Contains, list_any, find}
@@ -7,29 +7,27 @@ use Rattle.refl_types.specs.declared.types.Key.{Key}
 use Rattle.refl_types.specs.declared.types.Mode.{Mode}
 use Rattle.refl_types.specs.declared.types.Mode.TheVariants.{Plain, Auth, Twamp}
 use Rattle.refl_types.specs.declared.config.ConfigParts.{ConfigParts}
-use Rattle.refl_types.specs.Same.{same_endpoint, same_mode, same_key}
+use Rattle.refl_types.specs.Same.{same_mode, same_key}
 use Rattle.refl_types.specs.Spelling.{has}
-use Rattle.refl_types.proofs.SameFacts.{key_same, same_key-refl}
-use Rattle.config_rows.specs.Rows.{Rows, IsRow, HasNoRow, IsSought}
-use Rattle.config_rows.specs.declared.book.Sought.TheVariants.{Known, Next, RowsFull}
+use Rattle.refl_types.proofs.SameFacts.{same_key-refl}
+use Rattle.config_rows.specs.Rows.{Rows, HasNoRow}
+use Rattle.config_rows.specs.declared.book.Sought.TheVariants.{RowsFull}
 use Rattle.session_key.specs.Matching.{excludes}
-use Rattle.session_world.specs.declared.steps.TableSize.{TableSize}
 use Rattle.session_world.specs.declared.steps.Step.{Step}
-use Rattle.session_world.specs.Keys.{is_auth, is_auth_mode, has_key, is_some}
-use Rattle.session_world.specs.Desk.{rows_written, IsComplete}
+use Rattle.session_world.specs.Keys.{is_auth_mode, is_some}
+use Rattle.session_world.specs.Desk.{IsComplete}
 use Rattle.session_world.specs.DeskLists.{DeskIsAllowed, SlotsAreSound}
 use Rattle.session_rule.specs.Seats.{joined_parts}
 use Rattle.session_desk.specs.declared.session.Session.{Session}
 use Rattle.session_desk.specs.declared.session.ReserveFault.{ReserveFault}
 use Rattle.session_desk.specs.declared.session.ReserveFault.TheVariants as faults
-use Rattle.session_desk.specs.Sessions.{is_of, has_mode_clash}
+use Rattle.session_desk.specs.Sessions.{has_mode_clash}
 use Rattle.session_desk.specs.Book.{Book, steps_of}
 use Rattle.session_desk.specs.Fits.{BookFits}
 use Rattle.session_desk.specs.Writes.{HasRow}
-use Rattle.session_desk.specs.Calls.{IsNotLive, IsAloneIn, IsKeyed, IsUnkeyed, HasNoRoom, NoCause}
+use Rattle.session_desk.specs.Calls.{IsAloneIn, IsKeyed, IsUnkeyed, HasNoRoom, NoCause}
 use Rattle.session_desk.specs.Refusals.{IsNotAdmitted}
-use Rattle.session_desk.proofs.BoolFacts.{bool, both, no_or, or_r, or_l, or_none, some_none, true_ne_false}
-use Rattle.session_desk.proofs.Serving.{row_given}
+use Rattle.session_desk.proofs.BoolFacts.{bool, no_or, or_r, or_none, some_none, true_ne_false}
 use Rattle.replay_format.specs.declared.code.OpenAnswer.{OpenAnswer}
 use Rattle.replay_format.specs.declared.code.OpenAnswer.TheVariants as opens
 use Rattle.replay_format.specs.Records.{Opening}
@@ -37,7 +35,7 @@ use Rattle.replay_table.specs.Table.{Entry, Table, is_bound, has_clash, is_accep
 use Rattle.replay_table.specs.Outcomes.{session_limit, lacks_key, open_answer_of, open_answer, after_opening}
 use Rattle.replay_table.proofs.AnswerFacts.{refused_opening}
 use Rattle.replay_table.proofs.ConfigFacts.{known_accepted, sought_open, accept_known, accept_next}
-use Rattle.shared_replay.specs.Stands.{live_keys, keys_of, HoldsTable, HasOpened, refusal}
+use Rattle.shared_replay.specs.Stands.{keys_of, HoldsTable, HasOpened, refusal}
 use Rattle.shared_replay.proofs.KeyFacts.{any_map, length_map, few_live}
 
 -- ---- lists

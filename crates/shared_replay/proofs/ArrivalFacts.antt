@@ -1,28 +1,25 @@
 -- What a datagram is answered, and the table after it, by the turn that was made for it.
-use Rattle.std.proofs.Common.{◌≡◌, ◌⊎◌, ⊎_elim, ℕ, List, [], ◌∷◌, ◌++◌, length, drop, map, true, false, sym, refl, ap, ◌∙◌, subst, Option, Some, None, Result, Ok, Err}
+use Rattle.std.proofs.Common.{◌≡◌, ⊎_elim, ℕ, List, [], ◌∷◌, ◌++◌, length, drop, map, true, false, sym, refl, ap, ◌∙◌, subst, Some}
 use Rattle.std.proofs.lemmas.Option.{none-some}
 use Rattle.refl_types.specs.declared.types.Key.{Key}
-use Rattle.refl_types.specs.declared.types.Endpoint.{Endpoint}
-use Rattle.refl_types.specs.declared.types.Mode.{Mode}
 use Rattle.refl_types.specs.declared.config.ConfigParts.{ConfigParts}
 use Rattle.refl_types.specs.declared.outcome.Silent.{Silent}
-use Rattle.refl_types.specs.declared.outcome.Silent.TheVariants as silents
 use Rattle.refl_types.specs.Same.{same_key}
 use Rattle.refl_types.specs.HmacKey.{HasHmacKey}
 use Rattle.refl_types.proofs.SameFacts.{key_same}
 use Rattle.reflect_core.specs.declared.judging.Judged.{Judged}
 use Rattle.reflect_core.specs.declared.judging.Judged.TheVariants as judged
 use Rattle.reflect_core.specs.Judgement.{judgement}
-use Rattle.session_world.specs.Answers.{Answer, missed, late, seen, drew, worker_answers}
-use Rattle.session_world.specs.History.{Session, SessionMap}
+use Rattle.session_world.specs.Answers.{Answer, missed}
+use Rattle.session_world.specs.History.{Session}
 use Rattle.session_world.specs.Desk.{config_at}
 use Rattle.session_world.specs.OneOrder.{table_of}
 use Rattle.session_world.specs.OneThread.{IsBetween, OneBound, HasTurned}
-use Rattle.session_rule.specs.Seats.{desk_steps, joined_parts}
+use Rattle.session_rule.specs.Seats.{joined_parts}
 use Rattle.session_desk.specs.Book.{Book, steps_of}
 use Rattle.session_desk.proofs.BoolFacts.{bool, some_same}
 use Rattle.replay_format.specs.declared.code.UnsentCause.{UnsentCause}
-use Rattle.replay_format.specs.declared.code.UnsentCause.TheVariants.{NoSession, Short, BadHmac, NoReply}
+use Rattle.replay_format.specs.declared.code.UnsentCause.TheVariants.{NoSession}
 use Rattle.replay_format.specs.Records.{Datagram, Arrives}
 use Rattle.replay_format.specs.Answers as answers
 use Rattle.replay_format.specs.Answers.{Sent, Unsent, answer_octets}
@@ -32,11 +29,11 @@ use Rattle.replay_table.specs.Outcomes.{answer, after, cause_of}
 use Rattle.replay_table.proofs.AnswerFacts.{no_session, not_reflected, reflected, with_sessions}
 use Rattle.shared_replay.specs.Tracks.{session_of_entry, entry_for, Tracks}
 use Rattle.shared_replay.specs.Following.{Follows, query_for}
-use Rattle.shared_replay.specs.Turn.{IsEntryOf, IsReflected, NeverComes, StaysSilent, HasDrawn, IsTurn}
-use Rattle.shared_replay.specs.Stands.{AreKeyed, HoldsTable, live_keys, keys_of, IsArrived}
+use Rattle.shared_replay.specs.Turn.{IsEntryOf, IsReflected, NeverComes, StaysSilent, HasDrawn}
+use Rattle.shared_replay.specs.Stands.{AreKeyed, HoldsTable, keys_of, IsArrived}
 use Rattle.shared_replay.proofs.EntryFacts.{entry_here, entry_there}
 use Rattle.shared_replay.proofs.KeyFacts.{keys_updated}
-use Rattle.shared_replay.proofs.TurnFacts.{missed_here, Saw, saw_here, Drew, drew_here}
+use Rattle.shared_replay.proofs.TurnFacts.{missed_here, Saw, saw_here, drew_here}
 
 -- a session of mode Auth that is bound has an HMAC key
 pub keyed_entry : (es : List Entry) (k : Key) (b : Session ConfigParts) → AreKeyed es → entry_for k es ≡ Some b → HasHmacKey k.mode b.config

@@ -1,5 +1,5 @@
 -- Calls of the desk between turns: what each leaves of the shared table, and of the rows that are kept.
-use Rattle.std.proofs.Common.{◌≡◌, ℕ, zero, suc, ◌*◌, ◌≤◌, Bool, true, false, ◌==◌, if◌then◌else◌, List, [], ◌∷◌, ◌++◌, ◌%◌, ◌^◌, sym, refl, ap, ◌∙◌, subst, arith, Option, Some, None}
+use Rattle.std.proofs.Common.{◌≡◌, ℕ, zero, suc, Bool, true, false, ◌==◌, if◌then◌else◌, List, [], ◌∷◌, ◌++◌, ◌%◌, ◌^◌, sym, refl, ap, ◌∙◌, subst, Option, Some, None}
 use Rattle.refl_types.specs.declared.types.Key.{Key}
 use Rattle.refl_types.specs.declared.types.Extra.{Extra}
 use Rattle.refl_types.specs.declared.config.ConfigParts.{ConfigParts}
@@ -9,20 +9,19 @@ use Rattle.session_world.specs.declared.steps.TableSize.{TableSize}
 use Rattle.session_world.specs.declared.steps.Step.{Step}
 use Rattle.session_world.specs.declared.steps.Part.{Part}
 use Rattle.session_world.specs.declared.steps.Step.TheVariants.{Split, Join, ReserveNew, ReserveUsed}
-use Rattle.session_world.specs.Desk.{config_at, row_word_of, IsComplete}
+use Rattle.session_world.specs.Desk.{config_at, IsComplete}
 use Rattle.session_world.specs.Keys.{config_of}
 use Rattle.session_world.specs.Answers.{opened, configured, closed, desk_answers}
-use Rattle.session_world.specs.History.{Session, reconfigured, drawn}
+use Rattle.session_world.specs.History.{Session, reconfigured}
 use Rattle.session_world.specs.Runs.{IsDeskOfOneSchedule}
 use Rattle.session_world.specs.Rows.{RowsStay}
-use Rattle.session_world.specs.OneOrder.{table_of}
 use Rattle.session_world.specs.OneThread.{IsBetween, HasCalled, CallsTell, NoTurns}
 use Rattle.session_table.specs.Knowing.{Places}
 use Rattle.session_desk.specs.Writes.{key_writes, row_writes, scans_of, reserve_step}
 use Rattle.replay_table.specs.Table.{Entry, is_bound, session_at, with_entry, update, without}
 use Rattle.replay_table.specs.Table as table
 use Rattle.replay_table.specs.Apart.{AreApart}
-use Rattle.shared_replay.specs.Tracks.{session_of_entry, entry_for}
+use Rattle.shared_replay.specs.Tracks.{entry_for}
 use Rattle.shared_replay.specs.Following.{Follows}
 use Rattle.shared_replay.specs.Stands.{AreKept}
 use Rattle.shared_replay.proofs.EntryFacts.{map_entry, update_entry, with_entry_for, unbound, without_for, entry_of}

@@ -1,14 +1,13 @@
 -- What the calls of the book leave of the table of a replay.
-use Rattle.std.proofs.Common.{◌≡◌, ◌⊎◌, inl, inr, ⊎_elim, ℕ, zero, suc, ◌+◌, ◌*◌, ◌<◌, ◌≤◌, ◌^◌, ◌%◌, Bool, true, false, not, ◌==◌, if◌then◌else◌, List, [], ◌∷◌, ◌++◌, length, map, sym, refl, ap, ◌∙◌, subst, arith, Option, Some, None, eq-eqb}
+use Rattle.std.proofs.Common.{◌≡◌, ⊎_elim, ℕ, zero, suc, ◌+◌, ◌≤◌, ◌^◌, Bool, true, false, not, ◌==◌, if◌then◌else◌, List, [], ◌∷◌, ◌++◌, length, sym, refl, ap, ◌∙◌, subst, arith, Some, None, eq-eqb}
 use Rattle.std.proofs.lemmas.List.{length-append}
-use Rattle.std.specs.List.{Contains, filter, list_any, find}
+use Rattle.std.specs.List.{Contains, filter, list_any}
 use Rattle.refl_types.specs.declared.types.Key.{Key}
 use Rattle.refl_types.specs.declared.types.Extra.{Extra}
 use Rattle.refl_types.specs.declared.config.ConfigParts.{ConfigParts}
 use Rattle.refl_types.specs.declared.outcome.Place.{Place}
 use Rattle.refl_types.specs.Same.{same_key}
-use Rattle.refl_types.proofs.SameFacts.{key_same, same_key-refl}
-use Rattle.slot_word.specs.Fields.{greatest_generation}
+use Rattle.refl_types.proofs.SameFacts.{same_key-refl}
 use Rattle.session_key.specs.Matching.{excludes}
 use Rattle.session_key.specs.Words.{key_words}
 use Rattle.config_rows.specs.Words.{row_words}
@@ -22,14 +21,14 @@ use Rattle.session_world.specs.DeskLists.{DeskIsAllowed, SlotsAreSound}
 use Rattle.session_world.specs.Rows.{RowsStay}
 use Rattle.session_world.specs.Runs.{IsDeskOfOneSchedule}
 use Rattle.session_world.specs.OneThread.{IsBetween, CallsTell, NoTurns}
-use Rattle.session_world.specs.Answers.{opened, configured, closed}
+use Rattle.session_world.specs.Answers.{opened}
 use Rattle.session_rule.specs.declared.seats.Table as rule
-use Rattle.session_rule.specs.Seats.{joined_parts, desk_steps}
+use Rattle.session_rule.specs.Seats.{joined_parts}
 use Rattle.session_desk.specs.declared.session.Session.{Session}
-use Rattle.session_desk.specs.Sessions.{is_of, has_mode_clash, new_session, is_in_slot, without}
+use Rattle.session_desk.specs.Sessions.{is_of, has_mode_clash, new_session, without}
 use Rattle.session_desk.specs.Book.{Book, IsBookOf, steps_of, answers_of}
 use Rattle.session_desk.specs.Fits.{BookFits, reserves_in}
-use Rattle.session_desk.specs.Writes.{key_writes, row_writes, scans_of, reserve_step, HasRow, HasAdded}
+use Rattle.session_desk.specs.Writes.{key_writes, row_writes, scans_of, reserve_step, HasRow}
 use Rattle.session_desk.specs.Calls.{IsNotLive, HasStarted, HasReserved, NoCause}
 use Rattle.session_desk.specs.Calls as calls
 use Rattle.session_desk.specs.Refusals.{IsRefused, IsUnmoved, IsFull, IsSetRefused}
@@ -37,7 +36,7 @@ use Rattle.session_desk.specs.declared.session.ReserveFault.{ReserveFault}
 use Rattle.session_desk.specs.declared.session.ReserveFault.TheVariants as faults
 use Rattle.session_desk.specs.declared.session.SetFault.{SetFault}
 use Rattle.session_desk.specs.declared.session.SetFault.TheVariants as set_faults
-use Rattle.session_desk.proofs.BoolFacts.{bool, or_r, or_l, no_or, true_ne_false}
+use Rattle.session_desk.proofs.BoolFacts.{or_l, no_or, true_ne_false}
 use Rattle.session_desk.proofs.Serving.{row_given}
 use Rattle.replay_format.specs.Records.{Opening, Setting}
 use Rattle.replay_format.specs.declared.code.OpenAnswer.TheVariants as opens
@@ -45,14 +44,14 @@ use Rattle.replay_format.specs.declared.code.SetAnswer.{SetAnswer}
 use Rattle.replay_format.specs.declared.code.SetAnswer.TheVariants as sets
 use Rattle.replay_table.specs.Table.{Entry, Table, is_bound, session_at, with_entry, update, accept, may_accept}
 use Rattle.replay_table.specs.Table as table
-use Rattle.replay_table.specs.Outcomes.{opened_entry, after_opening, after_setting, after_closing, set_answer_of, set_answer, lacks_key, count_of}
+use Rattle.replay_table.specs.Outcomes.{after_opening, after_setting, set_answer_of, set_answer, lacks_key, count_of}
 use Rattle.replay_table.specs.Apart.{AreApart}
 use Rattle.shared_replay.specs.Following.{Follows}
-use Rattle.shared_replay.specs.Stands.{IsDesk, IsDeskAfter, HoldsTable, HasSet, HasClosed, set_refusal, live_keys, keys_of, AreKept}
-use Rattle.shared_replay.proofs.EntryFacts.{unbound, at_none}
-use Rattle.shared_replay.proofs.KeyFacts.{fewer_filtered, keys_added, keys_updated, keys_without, live_opened, live_configured, live_closed, live_same, few_live, length_map}
-use Rattle.shared_replay.proofs.CallFacts.{plain_then, plain_keys, plain_rows, plain_scans, plain_reserve, IsCall, still_between, nothing_here, opened_here, configured_here, closed_here, kept_stays}
-use Rattle.shared_replay.proofs.AnswerFacts.{any_contains, any_found, any_apart, contains_one, live_test, lacks, lacks_none, room_none, room_some, row_accepts, how_many}
+use Rattle.shared_replay.specs.Stands.{IsDesk, IsDeskAfter, HoldsTable, HasSet, HasClosed, set_refusal, live_keys}
+use Rattle.shared_replay.proofs.EntryFacts.{at_none}
+use Rattle.shared_replay.proofs.KeyFacts.{fewer_filtered, keys_added, keys_updated, keys_without, live_opened, live_configured, live_closed, few_live, length_map}
+use Rattle.shared_replay.proofs.CallFacts.{plain_then, plain_keys, plain_rows, plain_scans, plain_reserve, IsCall, still_between, opened_here, configured_here, closed_here, kept_stays}
+use Rattle.shared_replay.proofs.AnswerFacts.{any_contains, any_found, any_apart, contains_one, live_test, lacks, lacks_none, room_none, room_some, row_accepts}
 
 -- ---- steps
 

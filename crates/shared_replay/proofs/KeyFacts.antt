@@ -10,7 +10,7 @@ use Rattle.session_desk.specs.declared.session.Session.{Session}
 use Rattle.session_desk.specs.Book.{Book, Line, line_of, with_line_row, without_line, lines_left, answers_of}
 use Rattle.session_desk.specs.Fits.{BookFits}
 use Rattle.session_desk.proofs.BoolFacts.{bool, no_or}
-use Rattle.replay_table.specs.Table.{Entry, Table, is_bound, with_entry, update, without}
+use Rattle.replay_table.specs.Table.{Entry, is_bound, with_entry, update, without}
 use Rattle.replay_table.specs.Apart.{AreApart}
 use Rattle.shared_replay.specs.Stands.{live_keys, keys_of}
 use Rattle.shared_replay.proofs.EntryFacts.{others_differ}

@@ -1,5 +1,5 @@
 -- The table after records: what holds of its sessions, and how long the records' spellings are.
-use Rattle.std.proofs.Common.{◌≡◌, ◌≢◌, ⊎_elim, ℕ, suc, ◌+◌, ◌≤◌, ◌^◌, Bool, true, false, ◌&&◌, not, if◌then◌else◌, List, [], ◌∷◌, ◌++◌, length, sym, refl, ap, ◌∙◌, subst, arith, Option, Some, None}
+use Rattle.std.proofs.Common.{◌≡◌, ⊎_elim, ℕ, ◌+◌, ◌≤◌, ◌^◌, Bool, true, false, ◌&&◌, not, List, [], ◌∷◌, ◌++◌, length, sym, refl, ap, ◌∙◌, subst, arith, Option, Some, None}
 use Rattle.std.specs.Prelude.{IsSome}
 use Rattle.std.proofs.lemmas.List.{length-append}
 use Rattle.std.proofs.lemmas.List.Concat.{flat_map-cons}
@@ -20,7 +20,7 @@ use Rattle.replay_format.specs.declared.code.OpenAnswer.TheVariants as opens
 use Rattle.replay_format.specs.declared.code.SetAnswer.{SetAnswer}
 use Rattle.replay_format.specs.declared.code.SetAnswer.TheVariants as sets
 use Rattle.replay_format.specs.Records.{Item, Opens, Sets, Closes, Arrives, Lists, Opening, Setting, Datagram, spelling, spellings}
-use Rattle.replay_table.specs.Table.{Entry, Table, empty_table, is_bound, has_clash, may_accept, with_entry, update, without, raised, configured}
+use Rattle.replay_table.specs.Table.{Entry, Table, is_bound, has_clash, may_accept, with_entry, update, without, raised, configured}
 use Rattle.replay_table.specs.Outcomes.{lacks_key, open_answer_of, open_answer, opened_entry, after_opening, set_answer_of, set_answer, after_setting, session_of, judged_table, after_arrival, after, table_after}
 use Rattle.shared_replay.specs.Stands.{AreKeyed, AreWithin}
 

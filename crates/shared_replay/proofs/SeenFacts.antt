@@ -1,16 +1,13 @@
 -- A worker's turn, by how far it goes: no session was found, or one that stays silent, or a draw came too late, or another row was
 -- drawn under, or the answer was written.
-use Rattle.std.proofs.Common.{◌≡◌, ◌⊎◌, inl, inr, ⊎_elim, ℕ, List, [], ◌∷◌, ◌++◌, Option, Some, None, Result, Ok, Err, refl, sym, ap, subst, ◌∙◌}
+use Rattle.std.proofs.Common.{◌≡◌, inl, inr, ⊎_elim, ℕ, List, [], ◌∷◌, ◌++◌, Option, Some, None, Ok, Err, sym, ap, subst, ◌∙◌}
 use Rattle.refl_types.specs.declared.types.Endpoint.{Endpoint}
-use Rattle.refl_types.specs.declared.types.Mode.{Mode}
 use Rattle.refl_types.specs.HmacKey.{HasHmacKey}
-use Rattle.reflect_core.specs.declared.judging.Judged.{Judged}
-use Rattle.reflect_core.specs.declared.judging.Judged.TheVariants as judged
 use Rattle.reflect_core.specs.Judgement.{judgement}
 use Rattle.session_world.specs.declared.steps.TableSize.{TableSize}
 use Rattle.session_world.specs.declared.steps.Step.{Step}
-use Rattle.session_world.specs.declared.steps.Step.TheVariants.{Draw, Retire}
-use Rattle.session_world.specs.Keys.{Query, Key, Extra, ConfigParts}
+use Rattle.session_world.specs.declared.steps.Step.TheVariants.{Draw}
+use Rattle.session_world.specs.Keys.{ConfigParts}
 use Rattle.session_world.specs.Answers.{Answer, seen, drew, missed, late, worker_answers}
 use Rattle.session_world.specs.Rows.{ReadsRows}
 use Rattle.session_world.specs.Loads.{row_loads}
@@ -22,7 +19,7 @@ use Rattle.replay_format.specs.declared.code.UnsentCause.{UnsentCause}
 use Rattle.replay_format.specs.declared.code.UnsentCause.TheVariants.{NoSession, Short, BadHmac, NoReply}
 use Rattle.replay_format.specs.Records.{Datagram}
 use Rattle.shared_replay.specs.Following.{query_for}
-use Rattle.shared_replay.specs.Turn.{IsSent, IsReflected, IsJudged, NeverComes, IsTurn, Turned}
+use Rattle.shared_replay.specs.Turn.{IsSent, IsReflected, IsJudged, IsTurn, Turned}
 
 -- ---- kept rows
 

@@ -1,5 +1,5 @@
 -- What is kept stands for the table after one record more.
-use Rattle.std.proofs.Common.{◌≡◌, ◌≢◌, ℕ, suc, ◌+◌, ◌≤◌, ◌^◌, List, [], ◌∷◌, ◌++◌, length, drop, Option, Some, None, refl, sym, ap, subst, ◌∙◌, arith}
+use Rattle.std.proofs.Common.{◌≡◌, ℕ, suc, ◌+◌, ◌≤◌, ◌^◌, List, [], ◌∷◌, ◌++◌, length, drop, Option, Some, None, refl, sym, ap, subst, ◌∙◌, arith}
 use Rattle.std.proofs.lemmas.List.{length-append}
 use Rattle.refl_types.specs.declared.types.Key.{Key}
 use Rattle.refl_types.specs.declared.types.Endpoint.{Endpoint}
@@ -27,7 +27,7 @@ use Rattle.replay_format.specs.Answers.{answer_octets}
 use Rattle.replay_table.specs.Table.{Entry, Table, empty_table}
 use Rattle.replay_table.specs.Outcomes.{open_answer, after_opening, set_answer, after_setting, session_of, judged_table, after_arrival, answer, after, table_after}
 use Rattle.replay_table.specs.Apart.{AreApart}
-use Rattle.shared_replay.specs.Stands.{AreKeyed, HoldsTable, Kept, AreWithin, Stands, HasArrived, IsArrived, HasOpened, HasSet, HasClosed, IsAnswered}
+use Rattle.shared_replay.specs.Stands.{HoldsTable, Kept, AreWithin, Stands, HasArrived, HasOpened, HasSet, HasClosed, IsAnswered}
 use Rattle.shared_replay.proofs.RecordFacts.{all_keyed, table_after-push, few_records}
 
 abbrev pub at : List Item → Table

@@ -1,31 +1,21 @@
 -- A turn of the worker for one datagram: what it leaves of the shared table, and what the datagram is answered.
-use Rattle.std.proofs.Common.{◌≡◌, ◌⊎◌, ⊎_elim, ℕ, suc, ◌+◌, ◌≤◌, ◌%◌, ◌^◌, Bool, true, false, if◌then◌else◌, List, [], ◌∷◌, ◌++◌, length, drop, sym, refl, ap, ◌∙◌, subst, arith, Option, Some, None, Result, Ok, Err}
-use Rattle.std.proofs.lemmas.Option.{none-some}
+use Rattle.std.proofs.Common.{◌≡◌, ℕ, suc, ◌+◌, ◌%◌, ◌^◌, if◌then◌else◌, List, [], ◌∷◌, sym, refl, ap, ◌∙◌, subst, arith, Option, Some, None}
 use Rattle.refl_types.specs.declared.types.Key.{Key}
 use Rattle.refl_types.specs.declared.types.Extra.{Extra}
-use Rattle.refl_types.specs.declared.types.Endpoint.{Endpoint}
 use Rattle.refl_types.specs.declared.config.ConfigParts.{ConfigParts}
-use Rattle.refl_types.specs.declared.outcome.Silent.{Silent}
-use Rattle.refl_types.specs.declared.outcome.Silent.TheVariants as silents
 use Rattle.refl_types.specs.Same.{same_key}
-use Rattle.refl_types.specs.HmacKey.{HasHmacKey}
-use Rattle.refl_types.proofs.SameFacts.{key_same}
-use Rattle.reflect_core.specs.declared.judging.Judged.{Judged}
-use Rattle.reflect_core.specs.declared.judging.Judged.TheVariants as judged
-use Rattle.reflect_core.specs.Judgement.{judgement}
 use Rattle.session_key.specs.declared.matching.Query.{Query}
-use Rattle.session_key.specs.Matching.{matches}
 use Rattle.session_world.specs.declared.steps.TableSize.{TableSize}
 use Rattle.session_world.specs.declared.steps.Step.{Step}
-use Rattle.session_world.specs.declared.steps.Step.TheVariants.{Split, Join}
+use Rattle.session_world.specs.declared.steps.Step.TheVariants.{Join}
 use Rattle.session_world.specs.declared.steps.Part.{Part}
 use Rattle.session_world.specs.Sizes.{IsWithinLimits}
 use Rattle.session_world.specs.Desk.{config_at, row_word_of, IsComplete}
-use Rattle.session_world.specs.Answers.{Answer, seen, drew, missed, late, worker_answers}
-use Rattle.session_world.specs.History.{Session, SessionMap, drawn, NoMatch}
+use Rattle.session_world.specs.Answers.{Answer, seen, drew, missed, worker_answers}
+use Rattle.session_world.specs.History.{Session, SessionMap, drawn}
 use Rattle.session_world.specs.Loads.{PartWords, AllPartWords, LoadedWords}
 use Rattle.session_world.specs.Rows.{ReadsRows}
-use Rattle.session_world.specs.Runs.{run, ended_part, IsDeskOfOneSchedule}
+use Rattle.session_world.specs.Runs.{ended_part, IsDeskOfOneSchedule}
 use Rattle.session_world.specs.OneOrder.{table_of}
 use Rattle.session_world.specs.OneThread.{IsBetween, OneBound, IsSight, HasTurned, after_turn, turn_part, TurnsTell}
 use Rattle.session_rule.specs.declared.seats.Table as rule
@@ -33,13 +23,11 @@ use Rattle.session_rule.specs.declared.seats.Seat.{Seat}
 use Rattle.session_rule.specs.declared.seats.WorkerSeat.{WorkerSeat}
 use Rattle.session_rule.specs.Seats.{size_of, HasSplitOff, HasJoined, desk_steps, joined_parts, worker_number, worker_steps}
 use Rattle.session_table.specs.Knowing.{Places, KeptAs}
-use Rattle.session_desk.proofs.BoolFacts.{bool, some_same}
 use Rattle.replay_table.specs.Table.{Entry, update, raised, session_for}
 use Rattle.shared_replay.specs.Tracks.{session_of_entry, entry_for, Tracks}
 use Rattle.shared_replay.specs.Following.{Follows}
-use Rattle.shared_replay.specs.Turn.{IsEntryOf}
 use Rattle.shared_replay.specs.Stands.{AreKept}
-use Rattle.shared_replay.proofs.EntryFacts.{find_none, Found, find_some, map_entry, update_entry, entry_here, entry_there}
+use Rattle.shared_replay.proofs.EntryFacts.{find_none, Found, find_some, map_entry, update_entry}
 
 -- ---- a turn that was made
 

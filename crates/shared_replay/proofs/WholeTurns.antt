@@ -1,11 +1,11 @@
 -- A datagram's turn from the split to the join, and what the datagram is answered by it.
-use Rattle.std.proofs.Common.{◌≡◌, ◌⊎◌, ⊎_elim, ℕ, ◌≤◌, List, [], ◌∷◌, ◌++◌, length, drop, Result, Ok, Err, sym, refl, ap, ◌∙◌, subst}
+use Rattle.std.proofs.Common.{◌≡◌, ⊎_elim, ℕ, ◌≤◌, List, ◌++◌, length, drop, Result, Ok, Err, sym, refl, ap, ◌∙◌, subst}
 use Rattle.refl_types.specs.declared.types.Endpoint.{Endpoint}
 use Rattle.refl_types.specs.declared.outcome.Silent.TheVariants as silents
 use Rattle.session_world.specs.declared.steps.TableSize.{TableSize}
 use Rattle.session_world.specs.Loads.{LoadedWords}
 use Rattle.session_world.specs.Desk.{config_at}
-use Rattle.session_world.specs.Answers.{Answer, worker_answers}
+use Rattle.session_world.specs.Answers.{worker_answers}
 use Rattle.session_world.specs.OneOrder.{table_of}
 use Rattle.session_world.specs.OneThread.{IsBetween, OneBound, HasTurned, TurnsTell}
 use Rattle.session_rule.specs.declared.seats.Table as rule
@@ -16,7 +16,7 @@ use Rattle.session_desk.specs.Book.{Book, steps_of}
 use Rattle.session_desk.specs.Parting.{HasSplit, IsJoined}
 use Rattle.replay_format.specs.declared.code.UnsentCause.{UnsentCause}
 use Rattle.replay_format.specs.declared.code.UnsentCause.TheVariants.{NoSession, Short, BadHmac, NoReply}
-use Rattle.replay_format.specs.Records.{Datagram, Arrives}
+use Rattle.replay_format.specs.Records.{Datagram}
 use Rattle.replay_format.specs.Answers as answers
 use Rattle.replay_format.specs.Answers.{Sent, Unsent, answer_limit, answer_octets}
 use Rattle.replay_table.specs.Table.{Table}

@@ -10,3 +10,6 @@ mod sessions;
 mod turning;
 
 pub use sessions::{ANSWER_ROOM, SESSIONS, Sessions};
+
+#[cfg(test)]
+mod tests;

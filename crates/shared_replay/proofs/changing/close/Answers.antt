@@ -1,6 +1,6 @@
 use Rattle.std.proofs.Common.{sym, subst}
 use Rattle.session_desk.specs.Fits.{BookFits}
-use Rattle.shared_replay.proofs.DeskFacts.{same_desk, close_desk, close_reserves, has_closed, not_closed}
+use Rattle.shared_replay.proofs.DeskFacts.{same_desk, close_desk, has_closed, not_closed}
 use Rattle.shared_replay.proofs.changing.close.Goals as goal
 
 pub returns-in_default-clause-after : goal.returns-in_default-clause-after

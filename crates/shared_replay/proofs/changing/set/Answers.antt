@@ -1,4 +1,4 @@
-use Rattle.std.proofs.Common.{refl, sym, ap, ◌∙◌, subst}
+use Rattle.std.proofs.Common.{sym, subst}
 use Rattle.replay_format.specs.declared.code.SetAnswer.{SetAnswer}
 use Rattle.replay_format.specs.Records.{Setting}
 use Rattle.session_desk.specs.Fits.{BookFits}

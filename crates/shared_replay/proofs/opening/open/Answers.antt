@@ -1,4 +1,4 @@
-use Rattle.std.proofs.Common.{◌≡◌, ◌≢◌, length, refl, sym, ap, ◌∙◌, subst, arith}
+use Rattle.std.proofs.Common.{◌≢◌, length, refl, sym, ◌∙◌, arith}
 use Rattle.replay_format.specs.Records.{Opening}
 use Rattle.shared_replay.proofs.DeskFacts.{same_desk}
 use Rattle.shared_replay.proofs.AnswerFacts.{refused, admitted, unbound_in, how_many, refusal_not, refused_holds, opened_holds, full_holds, not_full}

@@ -1,4 +1,4 @@
-use Rattle.std.proofs.Common.{List, take, refl, sym, ap, subst, ◌∙◌}
+use Rattle.std.proofs.Common.{List, take, refl, sym, ap, subst}
 use Rattle.refl_types.specs.declared.types.Endpoint.{Endpoint}
 use Rattle.replay_format.specs.Records.{Opening, Setting}
 use Rattle.replay_format.specs.View.{item_of}
