@@ -61,16 +61,16 @@ fn a_session_is_opened_once_and_its_closing_tells_its_draws(rt: HostRuntime) -> 
     let datagram = padded(alloc, &DATAGRAM, &[0; 28])?;
 
     let len = answer_to(&mut sessions, &opening, &mut out);
-    assert_eq!(rt; &out[..len], &[0x81, 0, 0, 0, 1, 0]);
+    assert_eq!(rt; &out[..len], [0x81, 0, 0, 0, 1, 0].as_slice());
     let len = answer_to(&mut sessions, &opening, &mut out);
-    assert_eq!(rt; &out[..len], &[0x81, 0, 0, 0, 1, 1]);
+    assert_eq!(rt; &out[..len], [0x81, 0, 0, 0, 1, 1].as_slice());
     let len = answer_to(&mut sessions, &datagram, &mut out);
     assert_eq!(rt; &out[..len], REPLY.as_slice());
     let len = answer_to(&mut sessions, &CLOSING, &mut out);
-    assert_eq!(rt; &out[..len], &[0x83, 0, 0, 0, 5, 0, 0, 0, 0, 1]);
+    assert_eq!(rt; &out[..len], [0x83, 0, 0, 0, 5, 0, 0, 0, 0, 1].as_slice());
     let len = answer_to(&mut sessions, &datagram, &mut out);
-    assert_eq!(rt; &out[..len], &[0x84, 0, 0, 0, 1, 1]);
+    assert_eq!(rt; &out[..len], [0x84, 0, 0, 0, 1, 1].as_slice());
     let len = answer_to(&mut sessions, &CLOSING, &mut out);
-    assert_eq!(rt; &out[..len], &[0x83, 0, 0, 0, 1, 6]);
+    assert_eq!(rt; &out[..len], [0x83, 0, 0, 0, 1, 6].as_slice());
     Ok(())
 }
