@@ -36,3 +36,9 @@ two_elements [] v w some few e f = absurd (omega arith)
 two_elements (x ∷ []) v w some few e f = absurd (omega arith)
 two_elements (x ∷ y ∷ []) v w some few e f = rw (e, f) refl
 two_elements (x ∷ y ∷ z ∷ ws) v w some few e f = absurd (omega arith)
+
+pub first_of_two : (a b c d : List ℕ) → a ∷ b ∷ [] ≡ c ∷ d ∷ [] → a ≡ c
+first_of_two a b c d e = cc
+
+pub second_of_two : (a b c d : List ℕ) → a ∷ b ∷ [] ≡ c ∷ d ∷ [] → b ≡ d
+second_of_two a b c d e = cc

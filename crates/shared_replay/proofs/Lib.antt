@@ -1,0 +1,12 @@
+pub mod EntryFacts
+pub mod KeyFacts
+pub mod CallFacts
+pub mod TurnFacts
+pub mod ArrivalFacts
+pub mod AnswerFacts
+pub mod DeskFacts
+pub mod RecordFacts
+pub mod ReplyFacts
+pub mod SeenFacts
+pub mod WholeTurns
+pub mod Standing

@@ -1,0 +1,4 @@
+pub mod Tracks
+pub mod Following
+pub mod Turn
+pub mod Stands
