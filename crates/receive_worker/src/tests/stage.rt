@@ -153,7 +153,9 @@ impl Stage {
             panic!(rt; "no session");
         };
         let seen = Met::new(rt, key, look.row, &look.config, octets);
-        self.set(rt, key, config);
+        self.book
+            .set(&self.table, key, config)
+            .expect(rt, "a live session");
         let drawn = draw(&self.table, &mut self.first, &look);
         retire(&self.table, &mut self.first);
         let Drawn::Number { row, config, .. } = drawn else {
