@@ -5,11 +5,11 @@ mod script;
 mod stage;
 
 use crate::WorkEnd;
-use refl_types::{Mode, Silent, Unanswered};
+use refl_types::{Address, Endpoint, Mode, Silent, Unanswered};
 use reflect_core::Judged;
 use requests::{PLAIN, REQUEST, request, signed, with_tail};
 use script::{Script, reply_at, sender, sendings};
-use stage::{Stage, USUAL_TLVS, config, five, fronts, key, plain_key, served};
+use stage::{Stage, USUAL_TLVS, answer_often, config, five, fronts, key, plain_key, served};
 
 #[test]
 fn five_datagrams_of_which_one_send_fails(rt: HostRuntime) {
@@ -243,4 +243,41 @@ fn a_turn_says_what_became_of_a_datagram(rt: HostRuntime) {
     ] {
         assert_eq!(rt; stage.turn(&mut port), want);
     }
+}
+
+#[test]
+fn plain_requests_are_answered_often(rt: HostRuntime) {
+    let usual = config(&rt, USUAL_TLVS, None);
+    answer_often(&rt, rt.alloc(), &plain_key(), &usual, &REQUEST, 0);
+}
+
+#[test]
+fn plain_requests_of_ipv6_are_answered_often(rt: HostRuntime) {
+    let peer = Endpoint {
+        address: Address::V6([0x20, 1, 0x0D, 0xB8, 0, 0, 0, 0, 0, 0, 0, 0, 0, 0, 0, 1]),
+        port: 5000,
+    };
+    let usual = config(&rt, USUAL_TLVS, None);
+    answer_often(
+        &rt,
+        rt.alloc(),
+        &key(peer, Mode::Plain, 7),
+        &usual,
+        &REQUEST,
+        0,
+    );
+}
+
+#[test]
+fn signed_requests_are_answered_often(rt: HostRuntime) {
+    let block = [0xA1; 64];
+    let session = key(sender(5000), Mode::Auth, 7);
+    let keyed = config(&rt, USUAL_TLVS, Some(block));
+    answer_often(&rt, rt.alloc(), &session, &keyed, &signed(&block), 0);
+}
+
+#[test]
+fn requests_of_a_session_behind_others_are_answered_often(rt: HostRuntime) {
+    let usual = config(&rt, USUAL_TLVS, None);
+    answer_often(&rt, rt.alloc(), &plain_key(), &usual, &REQUEST, 64);
 }

@@ -13,7 +13,9 @@ use refl_types::{Clock, Config, ConfigParts, Endpoint, Extra, Key, Meta, Mode, U
 use reflect_core::{Judged, judge};
 use session_desk::DeskBook;
 use session_rule::{Table, TableSize, WorkerSeat, open_table};
-use session_table::{Drawn, Found, draw, find, retire};
+use session_table::{
+    Drawn, DrawnRow, Found, KnownRows, Seen, draw, draw_by, find, find_by, retire,
+};
 use std::alloc::Global;
 use std::process::Abort;
 
@@ -21,6 +23,9 @@ const NO_EXTRA: Extra = Extra {
     symmetrical: false,
     reflect: 0,
 };
+
+/// How often requests are answered whose instructions are counted.
+const TIMES: usize = 2_000;
 
 /// The TLV types 3 and 5, as bits.
 pub const USUAL_TLVS: u32 = 1 << 3 | 1 << 5;
@@ -54,6 +59,17 @@ pub fn config(rt: &impl Abort, tlvs: u32, key: Option<[u8; 64]>) -> Config {
         key,
     };
     Config::make(parts).expect(rt, "a configuration")
+}
+
+/// What is told of a datagram of a session.
+fn meta_of(key: &Key, octets: &[u8]) -> Meta {
+    Meta {
+        local: key.local,
+        peer: key.peer,
+        len: octets.len(),
+        ttl: None,
+        arrival: 0,
+    }
 }
 
 /// The row that a worker met, and what its configuration makes of a datagram.
@@ -134,6 +150,20 @@ impl Stage {
             .expect(rt, "a live session")
     }
 
+    /// Looks the session of a request up, draws, and lets it go. Answers the number.
+    #[inline(never)]
+    pub fn look_up(&mut self, known: &mut KnownRows, meta: &Meta, octets: &[u8]) -> Option<u32> {
+        let Seen::Held(sight) = find_by(&self.table, &mut self.first, known, meta, octets) else {
+            return None;
+        };
+        let drawn = draw_by(&self.table, &mut self.first, known, &sight);
+        retire(&self.table, &mut self.first);
+        match drawn {
+            DrawnRow::Number { n, .. } => Some(n),
+            DrawnRow::NoSession => None,
+        }
+    }
+
     /// Looks the session of a request up, gives it another configuration, and draws. Answers what was met at both.
     pub fn turn_while_set(
         &mut self,
@@ -142,13 +172,7 @@ impl Stage {
         config: &Config,
         octets: &[u8],
     ) -> (Met, Met) {
-        let meta = Meta {
-            local: 0,
-            peer: key.peer,
-            len: octets.len(),
-            ttl: None,
-            arrival: 0,
-        };
+        let meta = meta_of(key, octets);
         let Found::Held(look) = find(&self.table, &mut self.first, &meta, octets) else {
             panic!(rt; "no session");
         };
@@ -225,6 +249,33 @@ pub fn five(
     let usual = config(rt, USUAL_TLVS, None);
     let tally = served(rt, alloc, &plain_key(), &usual, &mut port);
     (port, tally)
+}
+
+/// Answers a session's request so often, behind other sessions of its sender, and looks it up as often. `bench/turns` counts the
+/// instructions.
+pub fn answer_often(
+    rt: &impl Abort,
+    alloc: Global,
+    session: &Key,
+    config: &Config,
+    octets: &[u8],
+    others: u16,
+) {
+    let mut stage = Stage::new(rt, alloc, 256);
+    for ssid in 0..others {
+        let other = key(session.peer, session.mode, ssid.wrapping_add(1_000));
+        stage.open(rt, &other, config);
+    }
+    stage.open(rt, session, config);
+    let mut script = Script::new(alloc);
+    script.give_often(rt, TIMES, &session.peer, octets);
+    let mut port = script.port(rt, &[], &[], &[]);
+    assert!(rt; stage.work(&mut port, 0, 10_000).sent == TIMES as u64);
+    let mut known = KnownRows::make(alloc).expect(rt, "rows");
+    for time in 0..TIMES as u32 {
+        let number = stage.look_up(&mut known, &meta_of(session, octets), octets);
+        assert!(rt; number == Some(time.wrapping_add(TIMES as u32)));
+    }
 }
 
 /// What a session's worker does with each front of a request.
