@@ -2,9 +2,6 @@
 
 mod gates;
 
-ghost use Rattle.std.specs.Prelude.{All};
-ghost use Rattle.net_io.specs.ScriptPort.{IsWhole};
-
 use crate::{Report, ServeFault, serve};
 use conf_text::read_conf;
 use control_desk::DeskEnd;
@@ -13,6 +10,7 @@ use net_io::{Desk, Port, PortDeed, PortItem, ScriptDesk, ScriptPort};
 use receive_worker::WorkEnd;
 use refl_types::{Address, Endpoint, Meta};
 use std::alloc::Global;
+use std::marker::Model;
 use std::process::Abort;
 use std::thread::Threads;
 
@@ -44,7 +42,18 @@ fn run<R: Threads + Sync + Abort, P: Port + Send, D: Desk>(
 struct Script {
     alloc: Global,
     items: Vec<PortItem>,
-    ghost whole: { All IsWhole items.items },
+}
+
+impl Model for Script {
+    ghost use Rattle.std.specs.Prelude.{All, List, map};
+    ghost use Rattle.net_io.specs.Port.{PortEntry};
+    ghost use Rattle.net_io.specs.ScriptPort.{IsWhole, item_entry};
+
+    ghost Value = { List PortEntry };
+
+    ghost view = { λ s. map item_entry s.items.items };
+
+    ghost invariant = { λ s. All IsWhole s.items.items };
 }
 
 impl Script {

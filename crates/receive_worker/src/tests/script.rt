@@ -1,11 +1,11 @@
 //! What a port is to give, and what it did.
 
-ghost use Rattle.std.specs.Prelude.{◌≡◌, ◌<◌, length, All};
-ghost use Rattle.net_io.specs.ScriptPort.{IsWhole};
+ghost use Rattle.std.specs.Prelude.{◌<◌, length};
 
 use net_io::{Port, PortDeed, PortItem, ScriptPort};
 use refl_types::{Address, Endpoint, Meta};
 use std::alloc::Global;
+use std::marker::Model;
 use std::process::Abort;
 
 /// Where all ports are bound.
@@ -30,7 +30,18 @@ pub fn sender(port: u16) -> Endpoint {
 pub struct Script {
     alloc: Global,
     items: Vec<PortItem>,
-    ghost whole: { All IsWhole items.items },
+}
+
+impl Model for Script {
+    ghost use Rattle.std.specs.Prelude.{All, List, map};
+    ghost use Rattle.net_io.specs.Port.{PortEntry};
+    ghost use Rattle.net_io.specs.ScriptPort.{IsWhole, item_entry};
+
+    ghost Value = { List PortEntry };
+
+    ghost view = { λ s. map item_entry s.items.items };
+
+    ghost invariant = { λ s. All IsWhole s.items.items };
 }
 
 impl Script {
