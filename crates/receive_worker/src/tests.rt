@@ -1,41 +1,53 @@
 //! Whole works over a scripted port, where memory is ample.
 
+mod often;
 mod requests;
 mod script;
 mod stage;
 
-use crate::WorkEnd;
-use refl_types::{Address, Endpoint, Mode, Silent, Unanswered};
+use crate::{Tally, WorkEnd};
+use refl_types::{Mode, Silent, Unanswered};
 use reflect_core::Judged;
-use requests::{PLAIN, REQUEST, request, signed, with_tail};
-use script::{Script, reply_at, sender, sendings};
-use stage::{Stage, USUAL_TLVS, answer_often, config, five, fronts, key, plain_key, served};
+use requests::{PLAIN, REQUEST, filled, request, signed, with_tail};
+use script::{Script, has_each_number_once, reply_at, sender, sendings};
+use stage::{NOTHING, Stage, USUAL_TLVS, config, five, fronts, key, one_of, plain_key};
+use std::alloc::Global;
+use std::process::Abort;
 
 #[test]
 fn five_datagrams_of_which_one_send_fails(rt: HostRuntime) {
+    let lost = Tally {
+        taken: 5,
+        sent: 4,
+        send_fault: 1,
+        ..NOTHING
+    };
     for failing in 1..6u64 {
         let (port, tally) = five(&rt, rt.alloc(), &[], &[], &[failing]);
-        assert_eq!(rt; (tally.taken, tally.sent, tally.send_fault), (5, 4, 1));
-        for number in 0..5 {
-            assert_eq!(rt; sendings(&port, number), 1);
-        }
+        assert!(rt; tally == lost);
+        assert!(rt; has_each_number_once(&port));
     }
 }
 
 #[test]
 fn five_datagrams_of_which_one_receive_fails(rt: HostRuntime) {
+    let failed = Tally {
+        taken: 5,
+        sent: 5,
+        recv_fault: 1,
+        ..NOTHING
+    };
     for failing in 1..6u64 {
-        let (_, tally) = five(&rt, rt.alloc(), &[], &[failing], &[]);
-        assert_eq!(rt; (tally.taken, tally.sent, tally.recv_fault), (5, 5, 1));
-        assert_eq!(rt; tally.end, WorkEnd::End);
+        let (port, tally) = five(&rt, rt.alloc(), &[], &[failing], &[]);
+        assert!(rt; tally == failed);
+        assert!(rt; has_each_number_once(&port));
     }
 }
 
 #[test]
 fn a_clock_that_goes_back_is_read_as_it_is(rt: HostRuntime) {
     let moments = [2_000_000_000, 1_000_000_000];
-    let (port, tally) = five(&rt, rt.alloc(), &moments, &[], &[]);
-    assert_eq!(rt; tally.sent, 5);
+    let (port, _) = five(&rt, rt.alloc(), &moments, &[], &[]);
     let first = [0, 0, 0, 0, 0x83, 0xAA, 0x7E, 0x82, 0, 0, 0, 0];
     let second = [0, 0, 0, 1, 0x83, 0xAA, 0x7E, 0x81, 0, 0, 0, 0];
     assert!(rt; reply_at(&port, 2).starts_with(&first));
@@ -47,7 +59,14 @@ fn plain_requests_are_cut_at_each_length(rt: HostRuntime) {
     let whole = with_tail([0x80, 1, 0, 8, 9, 9, 9, 9, 9, 9, 9, 9]);
     let usual = config(&rt, USUAL_TLVS, None);
     let (port, tally) = fronts(&rt, rt.alloc(), &plain_key(), &usual, &whole);
-    assert_eq!(rt; (tally.no_session, tally.short, tally.sent), (16, 28, 13));
+    let wanted = Tally {
+        taken: 57,
+        no_session: 16,
+        short: 28,
+        sent: 13,
+        ..NOTHING
+    };
+    assert!(rt; tally == wanted);
     for (place, len, first) in [
         (49, 45, 0x80),
         (55, 47, 0x80),
@@ -56,7 +75,8 @@ fn plain_requests_are_cut_at_each_length(rt: HostRuntime) {
         (82, 56, 0),
     ] {
         let reply = reply_at(&port, place);
-        assert_eq!(rt; (reply.len(), reply.get(PLAIN)), (len, Some(&first)));
+        assert!(rt; reply.len() == len);
+        assert!(rt; reply.get(PLAIN) == Some(&first));
     }
 }
 
@@ -66,7 +86,14 @@ fn signed_requests_are_cut_at_each_length(rt: HostRuntime) {
     let session = key(sender(5000), Mode::Auth, 7);
     let keyed = config(&rt, USUAL_TLVS, Some(block));
     let (_, tally) = fronts(&rt, rt.alloc(), &session, &keyed, &signed(&block));
-    assert_eq!(rt; (tally.no_session, tally.short, tally.sent), (28, 84, 1));
+    let wanted = Tally {
+        taken: 113,
+        no_session: 28,
+        short: 84,
+        sent: 1,
+        ..NOTHING
+    };
+    assert!(rt; tally == wanted);
 }
 
 #[test]
@@ -74,77 +101,81 @@ fn twamp_requests_are_cut_at_each_length(rt: HostRuntime) {
     let session = key(sender(5000), Mode::Twamp, 0);
     let usual = config(&rt, USUAL_TLVS, None);
     let (_, tally) = fronts(&rt, rt.alloc(), &session, &usual, &REQUEST[..20]);
-    assert_eq!(rt; (tally.no_session, tally.short, tally.sent), (0, 14, 7));
+    let wanted = Tally {
+        taken: 21,
+        short: 14,
+        sent: 7,
+        ..NOTHING
+    };
+    assert!(rt; tally == wanted);
 }
 
 #[test]
 fn one_tlv_fills_a_datagram(rt: HostRuntime) {
-    let mut whole = vec![in rt.alloc(); 0u8; 65_507].expect(&rt, "octets");
-    whole[..PLAIN].copy_from_slice(&REQUEST);
-    whole[PLAIN..48].copy_from_slice(&[0x80, 1, 0xFF, 0xB3]);
-    let mut script = Script::new(rt.alloc());
-    script.give(&rt, &sender(5000), &whole);
-    let mut port = script.port(&rt, &[], &[], &[]);
     let usual = config(&rt, USUAL_TLVS, None);
-    let tally = served(&rt, rt.alloc(), &plain_key(), &usual, &mut port);
-    assert_eq!(rt; tally.sent, 1);
+    let whole = filled(&rt, rt.alloc(), &[0x80, 1, 0xFF, 0xB3], 1);
+    let port = one_of(&rt, rt.alloc(), &usual, &whole);
     let reply = reply_at(&port, 2);
-    assert_eq!(rt; (reply.len(), reply.get(PLAIN)), (65_507, Some(&0)));
+    assert!(rt; reply.len() == 65_507);
+    assert!(rt; reply.get(PLAIN) == Some(&0));
 }
 
 #[test]
 fn many_tlvs_fill_a_datagram(rt: HostRuntime) {
-    let mut whole = vec![in rt.alloc(); 0u8; 65_507].expect(&rt, "octets");
-    whole[..PLAIN].copy_from_slice(&REQUEST);
-    for tlv in 0..16_365 {
-        whole[PLAIN + 4 * tlv] = 0x80;
-        whole[PLAIN + 4 * tlv + 1] = 0xC8;
-    }
-    let mut script = Script::new(rt.alloc());
-    script.give(&rt, &sender(5000), &whole);
-    let mut port = script.port(&rt, &[], &[], &[]);
     let usual = config(&rt, USUAL_TLVS, None);
-    let tally = served(&rt, rt.alloc(), &plain_key(), &usual, &mut port);
-    assert_eq!(rt; tally.sent, 1);
+    let whole = filled(&rt, rt.alloc(), &[0x80, 0xC8, 0, 0], 16_365);
+    let port = one_of(&rt, rt.alloc(), &usual, &whole);
     let reply = reply_at(&port, 2);
-    assert!(rt; reply.ends_with(&whole[PLAIN..]) && reply.len() == 65_507);
+    assert!(rt; reply.len() == 65_507);
+    assert!(rt; reply.ends_with(&whole[PLAIN..]));
+}
+
+/// What 63 or 64 failures in a row lead to.
+fn after_failures(rt: &impl Abort, alloc: Global, count: u64) -> Tally {
+    let mut failing = Vec::new(alloc);
+    for call in 1..65u64 {
+        if call <= count {
+            failing.push(call).expect(rt, "room");
+        }
+    }
+    let (_, tally) = five(rt, alloc, &[], &failing, &[]);
+    tally
+}
+
+#[test]
+fn sixty_three_failures_in_a_row_are_borne(rt: HostRuntime) {
+    let wanted = Tally {
+        taken: 5,
+        sent: 5,
+        recv_fault: 63,
+        ..NOTHING
+    };
+    assert!(rt; after_failures(&rt, rt.alloc(), 63) == wanted);
 }
 
 #[test]
 fn sixty_four_failures_in_a_row_end_a_worker(rt: HostRuntime) {
-    let mut failing = Vec::new(rt.alloc());
-    for call in 1..64u64 {
-        failing.push(call).expect(&rt, "room");
-    }
-    let (_, tally) = five(&rt, rt.alloc(), &[], &failing, &[]);
-    assert_eq!(rt; (tally.recv_fault, tally.sent), (63, 5));
-    assert_eq!(rt; tally.end, WorkEnd::End);
-    failing.push(64).expect(&rt, "room");
-    let (_, tally) = five(&rt, rt.alloc(), &[], &failing, &[]);
-    assert_eq!(rt; (tally.recv_fault, tally.taken), (64, 0));
-    assert_eq!(rt; tally.end, WorkEnd::PortFault);
+    let wanted = Tally {
+        recv_fault: 64,
+        end: WorkEnd::PortFault,
+        ..NOTHING
+    };
+    assert!(rt; after_failures(&rt, rt.alloc(), 64) == wanted);
 }
 
 #[test]
 fn who_asks_for_no_reply_gets_none(rt: HostRuntime) {
-    let mut script = Script::new(rt.alloc());
-    let asks = with_tail([0x80, 10, 0, 8, 0x80, 1, 0, 4, 0, 0, 0, 0]);
-    script.give(&rt, &sender(5000), &asks);
-    script.give(&rt, &sender(5000), &REQUEST);
-    let mut port = script.port(&rt, &[], &[], &[]);
     let paths = config(&rt, 1 << 10, None);
-    let tally = served(&rt, rt.alloc(), &plain_key(), &paths, &mut port);
-    assert_eq!(rt; (tally.taken, tally.no_reply, tally.sent), (2, 1, 1));
-    assert_eq!(rt; sendings(&port, 0), 1);
+    let asks = with_tail([0x80, 10, 0, 8, 0x80, 1, 0, 4, 0, 0, 0, 0]);
+    let port = one_of(&rt, rt.alloc(), &paths, &asks);
+    assert!(rt; port.entry(0).is_some());
+    assert!(rt; sendings(&port, 0) == 0);
 }
 
 #[test]
 fn a_worker_ends_by_the_first_end_that_is_due(rt: HostRuntime) {
     let mut stage = Stage::new(&rt, rt.alloc(), 4);
-    let mut script = Script::new(rt.alloc());
-    script.pause(&rt, 3);
-    script.give_often(&rt, 3, &sender(5000), &REQUEST);
-    let mut port = script.port(&rt, &[], &[], &[]);
+    let mut port = Script::with_pauses(&rt, rt.alloc(), 3, 3);
     for (limit, turns, taken, end) in [
         (0, 0, 0, WorkEnd::Budget),
         (0, 3, 0, WorkEnd::Budget),
@@ -153,7 +184,8 @@ fn a_worker_ends_by_the_first_end_that_is_due(rt: HostRuntime) {
         (1, 1, 0, WorkEnd::End),
     ] {
         let tally = stage.work(&mut port, limit, turns);
-        assert_eq!(rt; (tally.taken, tally.end), (taken, end));
+        assert!(rt; tally.taken == taken);
+        assert!(rt; tally.end == end);
     }
 }
 
@@ -167,9 +199,9 @@ fn sessions_are_found_by_their_sender_and_ssid(rt: HostRuntime) {
     script.give(&rt, &sender(5000), &request(8));
     script.give(&rt, &sender(5000), &request(9));
     script.give(&rt, &sender(5001), &request(7));
-    let mut port = script.port(&rt, &[], &[], &[]);
-    let tally = stage.work(&mut port, 0, 100);
-    assert_eq!(rt; (tally.sent, tally.no_session), (1, 2));
+    let tally = stage.work_out(&rt, script);
+    assert!(rt; tally.sent == 1);
+    assert!(rt; tally.no_session == 2);
 }
 
 #[test]
@@ -178,15 +210,13 @@ fn a_request_is_judged_under_the_key_of_the_day(rt: HostRuntime) {
     let session = key(sender(5000), Mode::Auth, 7);
     let mut stage = Stage::new(&rt, rt.alloc(), 4);
     stage.open(&rt, &session, &config(&rt, USUAL_TLVS, Some(old)));
-    let mut script = Script::new(rt.alloc());
-    script.give_often(&rt, 2, &sender(5000), &signed(&old));
-    script.give(&rt, &sender(5000), &signed(&new));
-    let mut port = script.port(&rt, &[], &[], &[]);
-    assert_eq!(rt; stage.work(&mut port, 1, 100).sent, 1);
     stage.set(&rt, &session, &config(&rt, USUAL_TLVS, Some(new)));
-    let tally = stage.work(&mut port, 0, 100);
-    assert_eq!(rt; (tally.bad_hmac, tally.sent), (1, 1));
-    assert_eq!(rt; (sendings(&port, 0), sendings(&port, 1)), (1, 1));
+    let mut script = Script::new(rt.alloc());
+    script.give(&rt, &sender(5000), &signed(&old));
+    script.give(&rt, &sender(5000), &signed(&new));
+    let tally = stage.work_out(&rt, script);
+    assert!(rt; tally.bad_hmac == 1);
+    assert!(rt; tally.sent == 1);
 }
 
 #[test]
@@ -197,32 +227,25 @@ fn a_number_drawn_under_another_key_than_that_of_the_look_is_spent(rt: HostRunti
     stage.open(&rt, &session, &config(&rt, USUAL_TLVS, Some(old)));
     let keyed = config(&rt, USUAL_TLVS, Some(new));
     let (seen, drawn) = stage.turn_while_set(&rt, &session, &keyed, &signed(&old));
-    assert_eq!(rt; (seen.row, seen.judged), (1, Judged::Reflect));
-    assert_eq!(rt;
-        (drawn.row, drawn.judged),
-        (2, Judged::Silent(Silent::BadHmac))
-    );
-    let mut script = Script::new(rt.alloc());
-    script.give(&rt, &sender(5000), &signed(&new));
-    let mut port = script.port(&rt, &[], &[], &[]);
-    assert_eq!(rt; stage.work(&mut port, 0, 100).sent, 1);
-    assert_eq!(rt; (sendings(&port, 0), sendings(&port, 1)), (0, 1));
+    assert!(rt; seen.row == 1 && seen.judged == Judged::Reflect);
+    assert!(rt; drawn.row == 2 && drawn.judged == Judged::Silent(Silent::BadHmac));
+    assert!(rt; stage.close(&rt, &session) == 1);
 }
 
 #[test]
 fn two_workers_and_a_desk_serve_one_table(rt: HostRuntime) {
     let mut stage = Stage::new(&rt, rt.alloc(), 4);
     stage.open(&rt, &plain_key(), &config(&rt, USUAL_TLVS, None));
-    let mut script = Script::new(rt.alloc());
-    script.give_often(&rt, 7, &sender(5000), &REQUEST);
-    let mut port = script.port(&rt, &[], &[], &[]);
-    for (number, next) in [(0, 1), (2, 3), (4, 5)] {
-        assert_eq!(rt; stage.work(&mut port, 1, 100).sent, 1);
-        assert_eq!(rt; stage.work_beside(&mut port, 1, 100).sent, 1);
-        assert_eq!(rt; (sendings(&port, number), sendings(&port, next)), (1, 1));
+    let mut port = Script::with_pauses(&rt, rt.alloc(), 0, 5);
+    for _turn in 0..2 {
+        assert!(rt; stage.work(&mut port, 1, 100).sent == 1);
+        assert!(rt; stage.work_beside(&mut port, 1, 100).sent == 1);
     }
-    assert_eq!(rt; stage.close(&rt, &plain_key()), 6);
-    assert_eq!(rt; stage.work(&mut port, 0, 100).no_session, 1);
+    assert!(rt; stage.close(&rt, &plain_key()) == 4);
+    assert!(rt; stage.work(&mut port, 0, 100).no_session == 1);
+    for number in 0..4 {
+        assert!(rt; sendings(&port, number) == 1);
+    }
 }
 
 #[test]
@@ -241,43 +264,6 @@ fn a_turn_says_what_became_of_a_datagram(rt: HostRuntime) {
         Err(Unanswered::NoSession),
         Err(Unanswered::SendFault),
     ] {
-        assert_eq!(rt; stage.turn(&mut port), want);
+        assert!(rt; stage.turn(&mut port) == want);
     }
-}
-
-#[test]
-fn plain_requests_are_answered_often(rt: HostRuntime) {
-    let usual = config(&rt, USUAL_TLVS, None);
-    answer_often(&rt, rt.alloc(), &plain_key(), &usual, &REQUEST, 0);
-}
-
-#[test]
-fn plain_requests_of_ipv6_are_answered_often(rt: HostRuntime) {
-    let peer = Endpoint {
-        address: Address::V6([0x20, 1, 0x0D, 0xB8, 0, 0, 0, 0, 0, 0, 0, 0, 0, 0, 0, 1]),
-        port: 5000,
-    };
-    let usual = config(&rt, USUAL_TLVS, None);
-    answer_often(
-        &rt,
-        rt.alloc(),
-        &key(peer, Mode::Plain, 7),
-        &usual,
-        &REQUEST,
-        0,
-    );
-}
-
-#[test]
-fn signed_requests_are_answered_often(rt: HostRuntime) {
-    let block = [0xA1; 64];
-    let session = key(sender(5000), Mode::Auth, 7);
-    let keyed = config(&rt, USUAL_TLVS, Some(block));
-    answer_often(&rt, rt.alloc(), &session, &keyed, &signed(&block), 0);
-}
-
-#[test]
-fn requests_of_a_session_behind_others_are_answered_often(rt: HostRuntime) {
-    let usual = config(&rt, USUAL_TLVS, None);
-    answer_often(&rt, rt.alloc(), &plain_key(), &usual, &REQUEST, 64);
 }

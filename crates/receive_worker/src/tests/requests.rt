@@ -1,6 +1,8 @@
 //! Requests of the session 7, written out from the tables of RFC 8762, section 4.2, and RFC 5357, section 4.1.2.
 
 use hmac_sha256::mac128;
+use std::alloc::Global;
+use std::process::Abort;
 
 /// Octets of an unauthenticated base packet.
 pub const PLAIN: usize = 44;
@@ -37,4 +39,14 @@ pub fn with_tail(tail: [u8; 12]) -> [u8; 56] {
     octets[..PLAIN].copy_from_slice(&REQUEST);
     octets[PLAIN..].copy_from_slice(&tail);
     octets
+}
+
+/// An unauthenticated one of 65,507 octets: behind the base packet this head of a TLV so often, and then zeros.
+pub fn filled(rt: &impl Abort, alloc: Global, head: &[u8; 4], count: usize) -> Vec<u8> {
+    let mut whole = Vec::from_slice(alloc, &REQUEST).expect(rt, "octets");
+    for _tlv in 0..count {
+        whole.extend_from_slice(head).expect(rt, "room");
+    }
+    whole.resize(65_507, 0).expect(rt, "room");
+    whole
 }

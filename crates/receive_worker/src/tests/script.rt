@@ -2,6 +2,7 @@
 
 ghost use Rattle.std.specs.Prelude.{◌<◌, length};
 
+use super::requests::REQUEST;
 use net_io::{Port, PortDeed, PortItem, ScriptPort};
 use refl_types::{Address, Endpoint, Meta};
 use std::alloc::Global;
@@ -69,7 +70,7 @@ impl Script {
     }
 
     /// The same so often.
-    pub fn give_often(&mut self, rt: &impl Abort, count: usize, peer: &Endpoint, octets: &[u8]) {
+    pub fn give_often(&mut self, rt: &impl Abort, count: u32, peer: &Endpoint, octets: &[u8]) {
         for _time in 0..count {
             self.give(rt, peer, octets);
         }
@@ -83,11 +84,21 @@ impl Script {
         }
     }
 
-    /// Nothing for now, so often.
-    pub fn pause(&mut self, rt: &impl Abort, count: usize) {
-        for _time in 0..count {
-            self.items.push(PortItem::Nothing).expect(rt, "room");
+    /// Nothing for now.
+    fn pause(&mut self, rt: &impl Abort) {
+        self.items.push(PortItem::Nothing).expect(rt, "room");
+    }
+
+    /// A port that gives nothing so often, and then so many requests of the first sender.
+    pub fn with_pauses(rt: &impl Abort, alloc: Global, pauses: u32, requests: u32) -> ScriptPort
+        ensures { 0 < length result.bound }
+    {
+        let mut script = Script::new(alloc);
+        for _time in 0..pauses {
+            script.pause(rt);
         }
+        script.give_often(rt, requests, &sender(5000), &REQUEST);
+        script.port(rt, &[], &[], &[])
     }
 
     /// The port, which is bound to the one local address, and fails in these calls.
@@ -132,6 +143,16 @@ pub fn sendings(port: &ScriptPort, number: u8) -> usize {
         }
     }
     count
+}
+
+/// Whether each number from 0 to 4 stands in just one of the replies that the port was asked to send.
+pub fn has_each_number_once(port: &ScriptPort) -> bool {
+    for number in 0..5 {
+        if sendings(port, number) != 1 {
+            return false;
+        }
+    }
+    true
 }
 
 /// The octets of the reply at a place of the log; none where there is none.

@@ -7,7 +7,7 @@ ghost use Rattle.session_table.specs.Holding.{HoldsNothing};
 
 use super::requests::REQUEST;
 use super::script::{LOCAL, Script, sender};
-use crate::{Buffers, Tally, turn, work};
+use crate::{Buffers, Tally, WorkEnd, turn, work};
 use net_io::{Got, ScriptPort};
 use refl_types::{Clock, Config, ConfigParts, Endpoint, Extra, Key, Meta, Mode, Unanswered};
 use reflect_core::{Judged, judge};
@@ -24,11 +24,22 @@ const NO_EXTRA: Extra = Extra {
     reflect: 0,
 };
 
-/// How often requests are answered whose instructions are counted.
-const TIMES: usize = 2_000;
-
 /// The TLV types 3 and 5, as bits.
 pub const USUAL_TLVS: u32 = 1 << 3 | 1 << 5;
+
+/// The tally of a worker whose port ended at once.
+pub const NOTHING: Tally = Tally {
+    taken: 0,
+    sent: 0,
+    no_session: 0,
+    short: 0,
+    bad_hmac: 0,
+    changed: 0,
+    no_reply: 0,
+    send_fault: 0,
+    recv_fault: 0,
+    end: WorkEnd::End,
+};
 
 /// The key of a session.
 pub fn key(peer: Endpoint, mode: Mode, ssid: u16) -> Key {
@@ -62,7 +73,7 @@ pub fn config(rt: &impl Abort, tlvs: u32, key: Option<[u8; 64]>) -> Config {
 }
 
 /// What is told of a datagram of a session.
-fn meta_of(key: &Key, octets: &[u8]) -> Meta {
+pub fn meta_of(key: &Key, octets: &[u8]) -> Meta {
     Meta {
         local: key.local,
         peer: key.peer,
@@ -206,6 +217,12 @@ impl Stage {
         work(&self.table, seat, port, &[LOCAL], limit, turns, buffers)
     }
 
+    /// The first worker's work up to the end of what a port is to give.
+    pub fn work_out(&mut self, rt: &impl Abort, script: Script) -> Tally {
+        let mut port = script.port(rt, &[], &[], &[]);
+        self.work(&mut port, 0, 10_000)
+    }
+
     /// One turn of the first worker, where its port gives a datagram.
     pub fn turn(&mut self, port: &mut ScriptPort) -> Result<(), Unanswered>
         requires { 0 < length port.old.bound }
@@ -220,7 +237,7 @@ impl Stage {
 }
 
 /// What a worker of one session does with what a port gives.
-pub fn served(
+fn served(
     rt: &impl Abort,
     alloc: Global,
     session: &Key,
@@ -228,7 +245,6 @@ pub fn served(
     port: &mut ScriptPort,
 ) -> Tally
     requires { 0 < length port.old.bound }
-    ensures { 0 < length port.new.bound }
 {
     let mut stage = Stage::new(rt, alloc, 4);
     stage.open(rt, session, config);
@@ -251,33 +267,6 @@ pub fn five(
     (port, tally)
 }
 
-/// Answers a session's request so often, behind other sessions of its sender, and looks it up as often. `bench/turns` counts the
-/// instructions.
-pub fn answer_often(
-    rt: &impl Abort,
-    alloc: Global,
-    session: &Key,
-    config: &Config,
-    octets: &[u8],
-    others: u16,
-) {
-    let mut stage = Stage::new(rt, alloc, 256);
-    for ssid in 0..others {
-        let other = key(session.peer, session.mode, ssid.wrapping_add(1_000));
-        stage.open(rt, &other, config);
-    }
-    stage.open(rt, session, config);
-    let mut script = Script::new(alloc);
-    script.give_often(rt, TIMES, &session.peer, octets);
-    let mut port = script.port(rt, &[], &[], &[]);
-    assert!(rt; stage.work(&mut port, 0, 10_000).sent == TIMES as u64);
-    let mut known = KnownRows::make(alloc).expect(rt, "rows");
-    for time in 0..TIMES as u32 {
-        let number = stage.look_up(&mut known, &meta_of(session, octets), octets);
-        assert!(rt; number == Some(time.wrapping_add(TIMES as u32)));
-    }
-}
-
 /// What a session's worker does with each front of a request.
 pub fn fronts(
     rt: &impl Abort,
@@ -291,4 +280,14 @@ pub fn fronts(
     let mut port = script.port(rt, &[], &[], &[]);
     let tally = served(rt, alloc, session, config, &mut port);
     (port, tally)
+}
+
+/// The port of a plain session's worker that took one datagram.
+pub fn one_of(rt: &impl Abort, alloc: Global, config: &Config, octets: &[u8]) -> ScriptPort {
+    let mut script = Script::new(alloc);
+    script.give(rt, &sender(5000), octets);
+    let mut port = script.port(rt, &[], &[], &[]);
+    let tally = served(rt, alloc, &plain_key(), config, &mut port);
+    assert!(rt; tally.taken == 1);
+    port
 }
