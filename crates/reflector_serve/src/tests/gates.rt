@@ -1,6 +1,7 @@
 //! Ports and desks that wait for one another.
 
-ghost use Rattle.std.specs.Prelude.{◌≡◌};
+ghost use Rattle.std.specs.Prelude.{◌≡◌, OnOk, OnErr};
+ghost use Rattle.port_io.specs.Outside.{Rises};
 
 use net_io::{Desk, DeskEvent, Got, Port, Timed};
 use port_io::{Failed, count_failure};
@@ -40,18 +41,23 @@ impl Counter {
     }
 
     /// The same, for one more object.
-    pub fn share(&self, rt: &impl Abort) -> Counter {
+    fn share(&self, rt: &impl Abort) -> Counter {
         Counter {
             count: Arc::try_clone(&self.count).expect(rt, "a counter"),
         }
     }
 
-    /// A gate that is open once it has happened so often.
-    pub fn gate(&self, rt: &impl Abort, count: u64) -> Gate {
-        Gate {
-            counter: self.share(rt),
-            count,
+    /// A gate for each of these counts, which is open once it has happened so often.
+    pub fn gates(&self, rt: &impl Abort, alloc: Global, counts: &[u64]) -> Vec<Gate> {
+        let mut gates = Vec::new(alloc);
+        for count in counts {
+            let gate = Gate {
+                counter: self.share(rt),
+                count: *count,
+            };
+            gates.push(gate).expect(rt, "room");
         }
+        gates
     }
 
     fn raise(&self) {
@@ -109,7 +115,12 @@ impl GatedPort {
         }
     }
 
-    fn bind(&mut self, locals: &[LocalAddr]) -> Result<(), Failed> {
+    fn bind(&mut self, locals: &[LocalAddr]) -> Result<(), Failed>
+        ensures bound { OnOk result (self.new.bound.items ≡ locals.now) }
+        ensures unbound { OnErr result (self.new.bound ≡ self.old.bound) }
+        ensures still { OnOk result (self.new.faults ≡ self.old.faults) }
+        ensures cause { OnErr result (Rises self.old.faults self.new.faults) }
+    {
         match Vec::from_slice(self.alloc, locals) {
             Ok(bound) => {
                 self.bound = bound;
@@ -163,6 +174,16 @@ impl Port for GatedPort {
     fn done(&mut self) {}
 }
 
+/// An event at the one moment.
+fn timed(event: DeskEvent) -> Timed
+    ensures { result.event ≡ event }
+{
+    Timed {
+        moment: 2_000,
+        event,
+    }
+}
+
 /// A desk at which time passes at each of its gates, once that is open; and its end where one stays shut.
 #[derive(Drop)]
 pub struct GatedDesk {
@@ -207,15 +228,11 @@ impl Desk for GatedDesk {
     }
 
     fn next(&mut self, _buf: &mut [u8]) -> Result<Timed, Failed> {
-        let mut event = DeskEvent::End;
-        if passes(&mut self.gates) {
-            self.told.raise();
-            event = DeskEvent::Tick;
+        if !passes(&mut self.gates) {
+            return Ok(timed(DeskEvent::End));
         }
-        Ok(Timed {
-            moment: 2_000,
-            event,
-        })
+        self.told.raise();
+        Ok(timed(DeskEvent::Tick))
     }
 
     fn send(&mut self, _conn: u32, _octets: &[u8]) -> Result<(), Failed> {
