@@ -2,4 +2,3 @@ pub mod GrowthFacts
 pub mod TurnFacts
 pub mod AccountFacts
 pub mod RoundFacts
-pub mod StageFacts
