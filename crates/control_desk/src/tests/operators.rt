@@ -21,6 +21,7 @@ fn answers(
     (sent(rt, alloc, &played, 3), played)
 }
 
+/// The session of docs/OPERATING.md.
 #[test]
 fn an_operator_is_answered_line_by_line(rt: HostRuntime) {
     let (text, played) = answers(
@@ -31,13 +32,15 @@ fn an_operator_is_answered_line_by_line(rt: HostRuntime) {
         "open 0 192.0.2.1:5000 plain 7 edge 0\n\
         count 0 192.0.2.1:5000 plain 7\nopen 0 192.0.2.1:5000 plain 7 edge 0\n\
         open 0 192.0.2.1:5000 auth 7 edge 0\nopen 1 192.0.2.1:5000 plain 8 edge 0\n\
+        open 0 192.0.2.1:5000 plain 8 core 0\nopen 0 192.0.2.1:5000 plain 8 edge 0\n\
         set 0 192.0.2.1:5000 plain 8 edge\nlist\nclose 0 192.0.2.1:5000 plain 7\n\
         open 0 192.0.2.1:5000 plain 7 edge 0\nfrob\nquit\nlist\n",
     );
     assert_eq!(rt;
         text.as_slice(),
-        b"ok\nok 0\nrefused duplicate\nrefused mode clash\nrefused local\n\
-        refused no such\n0 192.0.2.1:5000 plain 7 0\nok 1\nok 0\nok\nrefused line\nbye\n"
+        b"ok\nok 0\nrefused duplicate\nrefused mode clash\nrefused local\nrefused no config\n\
+        refused full live 1 reserved 0 retired 0 held 0\nrefused no such\n\
+        0 192.0.2.1:5000 plain 7 0\nok 1\nok 0\nok\nrefused line\nbye\n"
             .as_slice()
     );
     assert_eq!(rt; played.live, 1);
