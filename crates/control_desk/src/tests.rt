@@ -1,6 +1,7 @@
 //! Runs of a desk over a script. The octets and lines are written out from the standards and from the lines' own table.
 
 ghost use Rattle.std.specs.Prelude.{◌≡◌, All, IsTrue};
+ghost use Rattle.net_io.specs.Desk.{octet_count};
 ghost use Rattle.net_io.specs.ScriptDesk.{IsWhole};
 ghost use Rattle.session_desk.specs.Book.{IsBookOf};
 
@@ -24,6 +25,15 @@ const CLIENT: Address = Address::V4([192, 0, 2, 1]);
 
 const SERVER: Address = Address::V4([192, 0, 2, 10]);
 
+/// What happens at a desk.
+#[derive(Clone, Copy)]
+enum Happens<'a> {
+    Opens(u32, ConnKind),
+    Gives(u32, &'a [u8]),
+    Closes(u32),
+    Ticks,
+}
+
 /// What is still to come.
 #[derive(Drop)]
 struct Script {
@@ -36,20 +46,6 @@ impl Script {
         Script {
             items: Vec::new(alloc),
         }
-    }
-
-    fn opened(&mut self, rt: &impl Abort, alloc: Global, moment: u64, conn: u32, kind: ConnKind) {
-        let item = DeskItem {
-            moment,
-            event: DeskEvent::Opened {
-                conn,
-                kind,
-                peer: CLIENT,
-                local: SERVER,
-            },
-            octets: Vec::new(alloc),
-        };
-        self.items.push(item).expect(rt, "room");
     }
 
     fn gives(&mut self, rt: &impl Abort, alloc: Global, moment: u64, conn: u32, octets: &[u8]) {
@@ -65,22 +61,33 @@ impl Script {
         self.items.push(item).expect(rt, "room");
     }
 
-    fn closed(&mut self, rt: &impl Abort, alloc: Global, moment: u64, conn: u32) {
+    /// Adds an event that comes without octets.
+    fn tells(&mut self, rt: &impl Abort, alloc: Global, moment: u64, event: DeskEvent)
+        requires { octet_count event ≡ 0 }
+    {
         let item = DeskItem {
             moment,
-            event: DeskEvent::Closed { conn },
+            event,
             octets: Vec::new(alloc),
         };
         self.items.push(item).expect(rt, "room");
     }
 
-    fn ticks(&mut self, rt: &impl Abort, alloc: Global, moment: u64) {
-        let item = DeskItem {
-            moment,
-            event: DeskEvent::Tick,
-            octets: Vec::new(alloc),
-        };
-        self.items.push(item).expect(rt, "room");
+    fn add(&mut self, rt: &impl Abort, alloc: Global, moment: u64, happens: &Happens) {
+        match *happens {
+            Happens::Opens(conn, kind) => {
+                let event = DeskEvent::Opened {
+                    conn,
+                    kind,
+                    peer: CLIENT,
+                    local: SERVER,
+                };
+                self.tells(rt, alloc, moment, event)
+            }
+            Happens::Gives(conn, octets) => self.gives(rt, alloc, moment, conn, octets),
+            Happens::Closes(conn) => self.tells(rt, alloc, moment, DeskEvent::Closed { conn }),
+            Happens::Ticks => self.tells(rt, alloc, moment, DeskEvent::Tick),
+        }
     }
 }
 
@@ -106,37 +113,37 @@ fn table_of(rt: &impl Abort, alloc: Global, slots: u32) -> (Table, DeskBook)
     (table, book)
 }
 
-/// Runs a desk of that file, with 2,000 calls for the next event. These calls fail, counted from 1.
-fn play(
-    rt: &impl Abort,
-    alloc: Global,
-    file: &str,
-    slots: u32,
-    script: Script,
-    fail_next: &[u64],
-    fail_send: &[u64],
-) -> Played {
-    play_for(rt, alloc, file, slots, script, fail_next, fail_send, 2_000)
+/// Calls of a desk that fail, counted from 1, and how many calls for the next event there are.
+#[derive(Clone, Copy)]
+struct Limits<'a> {
+    fail_next: &'a [u64],
+    fail_send: &'a [u64],
+    turns: u64,
 }
 
-/// Runs a desk of that file, with so many calls for the next event. These calls fail, counted from 1.
-fn play_for(
+/// Nothing fails, and the desk comes to its end.
+const NO_LIMITS: Limits = Limits {
+    fail_next: &[],
+    fail_send: &[],
+    turns: 10_000,
+};
+
+/// Runs a desk of that file, on a table of as many slots.
+fn run(
     rt: &impl Abort,
     alloc: Global,
     file: &str,
     slots: u32,
     script: Script,
-    fail_next: &[u64],
-    fail_send: &[u64],
-    turns: u64,
+    limits: &Limits,
 ) -> Played {
     let (table, mut book) = table_of(rt, alloc, slots);
     let Ok(conf) = read_conf(alloc, file.as_bytes()) else {
         panic!(rt; "a file");
     };
     let mut room = DeskRoom::make(alloc, &conf).expect(rt, "a room");
-    let fail_next = Vec::from_slice(alloc, fail_next).expect(rt, "numbers");
-    let fail_send = Vec::from_slice(alloc, fail_send).expect(rt, "numbers");
+    let fail_next = Vec::from_slice(alloc, limits.fail_next).expect(rt, "numbers");
+    let fail_send = Vec::from_slice(alloc, limits.fail_send).expect(rt, "numbers");
     let mut desk = ScriptDesk::make(
         alloc,
         script.items,
@@ -148,12 +155,28 @@ fn play_for(
     )
     .expect(rt, "a desk");
     desk.open(None, None).expect(rt, "open");
-    let tally = run_desk(&table, &mut book, &mut room, &mut desk, turns);
+    let tally = run_desk(&table, &mut book, &mut room, &mut desk, limits.turns);
     Played {
         tally,
         desk,
         live: book.live_len(),
     }
+}
+
+/// Runs a desk of that file over what happens at these moments.
+fn play(
+    rt: &impl Abort,
+    alloc: Global,
+    file: &str,
+    slots: u32,
+    events: &[(u64, Happens)],
+    limits: &Limits,
+) -> Played {
+    let mut script = Script::new(alloc);
+    for (moment, happens) in events {
+        script.add(rt, alloc, *moment, happens);
+    }
+    run(rt, alloc, file, slots, script, limits)
 }
 
 /// The octets that were sent on a connection, in a row.
@@ -180,6 +203,34 @@ fn hang_ups(played: &Played, conn: u32) -> u32 {
         }
     }
     count
+}
+
+/// Ends a test where something else was sent on a connection.
+fn expect_sent(
+    rt: &impl Abort,
+    alloc: Global,
+    played: &Played,
+    conn: u32,
+    text: &[u8],
+    case: usize,
+) {
+    let all = sent(rt, alloc, played, conn);
+    assert_eq!(rt; all.as_slice(), text, "case {case}");
+}
+
+/// How often a connection was hung up, and how many sessions are live, were closed, and have expired.
+type Ends = (u32, u32, u64, u64);
+
+/// Ends a test where a run has come to something else.
+fn expect_ends(rt: &impl Abort, played: &Played, conn: u32, ends: Ends, case: usize) {
+    let tally = &played.tally;
+    let found = (
+        hang_ups(played, conn),
+        played.live,
+        tally.closed,
+        tally.expired,
+    );
+    assert_eq!(rt; found, ends, "case {case}");
 }
 
 /// A second, in nanoseconds.
@@ -226,4 +277,24 @@ fn server_octets() -> [u8; 192] {
     octets[129] = 0x05;
     octets[130] = 0xF2;
     octets
+}
+
+/// What happens where octets come one by one behind an event, at one moment.
+fn one_by_one<'a>(
+    rt: &impl Abort,
+    alloc: Global,
+    first: (u64, Happens<'a>),
+    moment: u64,
+    conn: u32,
+    octets: &'a [u8],
+) -> Vec<(u64, Happens<'a>)> {
+    let mut events = Vec::new(alloc);
+    events.push(first).expect(rt, "room");
+    for at in 0..octets.len() {
+        let piece = &octets[at..at + 1];
+        events
+            .push((moment, Happens::Gives(conn, piece)))
+            .expect(rt, "room");
+    }
+    events
 }
