@@ -1,10 +1,15 @@
 //! Runs of a desk over a script. The octets and lines are written out from the standards and from the lines' own table.
 
 ghost use Rattle.std.specs.Prelude.{◌≡◌, All, IsTrue};
+ghost use Rattle.net_io.specs.Desk.{octet_count};
 ghost use Rattle.net_io.specs.ScriptDesk.{IsWhole};
 ghost use Rattle.session_desk.specs.Book.{IsBookOf};
 
-use crate::{DeskEnd, DeskRoom, DeskTally, run_desk};
+mod clients;
+mod operators;
+mod runs;
+
+use crate::{DeskRoom, DeskTally, run_desk};
 use conf_text::read_conf;
 use net_io::{ConnKind, Desk, DeskDeed, DeskEvent, DeskItem, PIECE_ROOM, ScriptDesk};
 use refl_types::Address;
@@ -20,6 +25,15 @@ const CLIENT: Address = Address::V4([192, 0, 2, 1]);
 
 const SERVER: Address = Address::V4([192, 0, 2, 10]);
 
+/// What happens at a desk.
+#[derive(Clone, Copy)]
+enum Happens<'a> {
+    Opens(u32, ConnKind),
+    Gives(u32, &'a [u8]),
+    Closes(u32),
+    Ticks,
+}
+
 /// What is still to come.
 #[derive(Drop)]
 struct Script {
@@ -32,20 +46,6 @@ impl Script {
         Script {
             items: Vec::new(alloc),
         }
-    }
-
-    fn opened(&mut self, rt: &impl Abort, alloc: Global, moment: u64, conn: u32, kind: ConnKind) {
-        let item = DeskItem {
-            moment,
-            event: DeskEvent::Opened {
-                conn,
-                kind,
-                peer: CLIENT,
-                local: SERVER,
-            },
-            octets: Vec::new(alloc),
-        };
-        self.items.push(item).expect(rt, "room");
     }
 
     fn gives(&mut self, rt: &impl Abort, alloc: Global, moment: u64, conn: u32, octets: &[u8]) {
@@ -61,22 +61,33 @@ impl Script {
         self.items.push(item).expect(rt, "room");
     }
 
-    fn closed(&mut self, rt: &impl Abort, alloc: Global, moment: u64, conn: u32) {
+    /// Adds an event that comes without octets.
+    fn tells(&mut self, rt: &impl Abort, alloc: Global, moment: u64, event: DeskEvent)
+        requires { octet_count event ≡ 0 }
+    {
         let item = DeskItem {
             moment,
-            event: DeskEvent::Closed { conn },
+            event,
             octets: Vec::new(alloc),
         };
         self.items.push(item).expect(rt, "room");
     }
 
-    fn ticks(&mut self, rt: &impl Abort, alloc: Global, moment: u64) {
-        let item = DeskItem {
-            moment,
-            event: DeskEvent::Tick,
-            octets: Vec::new(alloc),
-        };
-        self.items.push(item).expect(rt, "room");
+    fn add(&mut self, rt: &impl Abort, alloc: Global, moment: u64, happens: &Happens) {
+        match *happens {
+            Happens::Opens(conn, kind) => {
+                let event = DeskEvent::Opened {
+                    conn,
+                    kind,
+                    peer: CLIENT,
+                    local: SERVER,
+                };
+                self.tells(rt, alloc, moment, event)
+            }
+            Happens::Gives(conn, octets) => self.gives(rt, alloc, moment, conn, octets),
+            Happens::Closes(conn) => self.tells(rt, alloc, moment, DeskEvent::Closed { conn }),
+            Happens::Ticks => self.tells(rt, alloc, moment, DeskEvent::Tick),
+        }
     }
 }
 
@@ -102,23 +113,37 @@ fn table_of(rt: &impl Abort, alloc: Global, slots: u32) -> (Table, DeskBook)
     (table, book)
 }
 
-/// Runs a desk of that file. These calls fail, counted from 1.
-fn play(
+/// Calls of a desk that fail, counted from 1, and how many calls for the next event there are.
+#[derive(Clone, Copy)]
+struct Limits<'a> {
+    fail_next: &'a [u64],
+    fail_send: &'a [u64],
+    turns: u64,
+}
+
+/// Nothing fails, and the desk comes to its end.
+const NO_LIMITS: Limits = Limits {
+    fail_next: &[],
+    fail_send: &[],
+    turns: 10_000,
+};
+
+/// Runs a desk of that file, on a table of as many slots.
+fn run(
     rt: &impl Abort,
     alloc: Global,
     file: &str,
     slots: u32,
     script: Script,
-    fail_next: &[u64],
-    fail_send: &[u64],
+    limits: &Limits,
 ) -> Played {
     let (table, mut book) = table_of(rt, alloc, slots);
     let Ok(conf) = read_conf(alloc, file.as_bytes()) else {
         panic!(rt; "a file");
     };
     let mut room = DeskRoom::make(alloc, &conf).expect(rt, "a room");
-    let fail_next = Vec::from_slice(alloc, fail_next).expect(rt, "numbers");
-    let fail_send = Vec::from_slice(alloc, fail_send).expect(rt, "numbers");
+    let fail_next = Vec::from_slice(alloc, limits.fail_next).expect(rt, "numbers");
+    let fail_send = Vec::from_slice(alloc, limits.fail_send).expect(rt, "numbers");
     let mut desk = ScriptDesk::make(
         alloc,
         script.items,
@@ -130,12 +155,28 @@ fn play(
     )
     .expect(rt, "a desk");
     desk.open(None, None).expect(rt, "open");
-    let tally = run_desk(&table, &mut book, &mut room, &mut desk, 2_000);
+    let tally = run_desk(&table, &mut book, &mut room, &mut desk, limits.turns);
     Played {
         tally,
         desk,
         live: book.live_len(),
     }
+}
+
+/// Runs a desk of that file over what happens at these moments.
+fn play(
+    rt: &impl Abort,
+    alloc: Global,
+    file: &str,
+    slots: u32,
+    events: &[(u64, Happens)],
+    limits: &Limits,
+) -> Played {
+    let mut script = Script::new(alloc);
+    for (moment, happens) in events {
+        script.add(rt, alloc, *moment, happens);
+    }
+    run(rt, alloc, file, slots, script, limits)
 }
 
 /// The octets that were sent on a connection, in a row.
@@ -164,8 +205,42 @@ fn hang_ups(played: &Played, conn: u32) -> u32 {
     count
 }
 
+/// Ends a test where something else was sent on a connection.
+fn expect_sent(
+    rt: &impl Abort,
+    alloc: Global,
+    played: &Played,
+    conn: u32,
+    text: &[u8],
+    case: usize,
+) {
+    let all = sent(rt, alloc, played, conn);
+    assert_eq!(rt; all.as_slice(), text, "case {case}");
+}
+
+/// How often a connection was hung up, and how many sessions are live, were closed, and have expired.
+type Ends = (u32, u32, u64, u64);
+
+/// Ends a test where a run has come to something else.
+fn expect_ends(rt: &impl Abort, played: &Played, conn: u32, ends: Ends, case: usize) {
+    let tally = &played.tally;
+    let found = (
+        hang_ups(played, conn),
+        played.live,
+        tally.closed,
+        tally.expired,
+    );
+    assert_eq!(rt; found, ends, "case {case}");
+}
+
 /// A second, in nanoseconds.
 const SECOND: u64 = 1_000_000_000;
+
+/// Octets from a place to another.
+fn part<'a>(rt: &impl Abort, octets: &'a [u8], from: usize, to: usize) -> &'a [u8] {
+    assert!(rt; from <= to && to <= octets.len());
+    &octets[from..to]
+}
 
 /// Set-Up-Response, Request-TW-Session, Start-Sessions and Stop-Sessions of a client that has one session, of port 6000,
 /// with a Timeout of two seconds.
@@ -204,299 +279,22 @@ fn server_octets() -> [u8; 192] {
     octets
 }
 
-#[test]
-fn a_client_has_a_session_until_its_timeout(rt: HostRuntime) {
-    let alloc = rt.alloc();
-    let octets = client_octets();
-    let mut script = Script::new(alloc);
-    script.opened(&rt, alloc, 0, 7, ConnKind::Control);
-    script.gives(&rt, alloc, 0, 7, part(&rt, &octets, 0, 164));
-    script.gives(&rt, alloc, 5 * SECOND, 7, part(&rt, &octets, 164, 308));
-    script.gives(&rt, alloc, 7 * SECOND, 7, part(&rt, &octets, 308, 340));
-    script.ticks(&rt, alloc, 9 * SECOND - 1);
-    let played = play(&rt, alloc, FILE, 1, script, &[], &[]);
-    assert_eq!(rt;
-        sent(&rt, alloc, &played, 7).as_slice(),
-        server_octets().as_slice()
-    );
-    assert_eq!(rt; (played.live, played.tally.closed), (1, 0));
-}
-
-#[test]
-fn every_cut_of_a_clients_octets_gives_the_same(rt: HostRuntime) {
-    let alloc = rt.alloc();
-    let octets = client_octets();
-    let wanted = server_octets();
-    for cut in 1..340usize {
-        let mut script = Script::new(alloc);
-        script.opened(&rt, alloc, 0, 7, ConnKind::Control);
-        script.gives(&rt, alloc, 5 * SECOND, 7, &octets[..cut]);
-        script.gives(&rt, alloc, 5 * SECOND, 7, &octets[cut..]);
-        script.ticks(&rt, alloc, 7 * SECOND);
-        let played = play(&rt, alloc, FILE, 1, script, &[], &[]);
-        assert_eq!(rt;
-            sent(&rt, alloc, &played, 7).as_slice(),
-            wanted.as_slice(),
-            "cut at {cut}"
-        );
-        assert_eq!(rt; (played.live, played.tally.closed), (0, 1), "cut at {cut}");
-        assert_eq!(rt; hang_ups(&played, 7), 0, "cut at {cut}");
+/// What happens where octets come one by one behind an event, at one moment.
+fn one_by_one<'a>(
+    rt: &impl Abort,
+    alloc: Global,
+    first: (u64, Happens<'a>),
+    moment: u64,
+    conn: u32,
+    octets: &'a [u8],
+) -> Vec<(u64, Happens<'a>)> {
+    let mut events = Vec::new(alloc);
+    events.push(first).expect(rt, "room");
+    for at in 0..octets.len() {
+        let piece = &octets[at..at + 1];
+        events
+            .push((moment, Happens::Gives(conn, piece)))
+            .expect(rt, "room");
     }
-}
-
-#[test]
-fn a_clients_octets_may_come_one_by_one(rt: HostRuntime) {
-    let alloc = rt.alloc();
-    let octets = client_octets();
-    let mut script = Script::new(alloc);
-    script.opened(&rt, alloc, 0, 7, ConnKind::Control);
-    for at in 0..340usize {
-        script.gives(&rt, alloc, 5 * SECOND, 7, &octets[at..at + 1]);
-    }
-    script.ticks(&rt, alloc, 7 * SECOND - 1);
-    let played = play(&rt, alloc, FILE, 1, script, &[], &[]);
-    assert_eq!(rt;
-        sent(&rt, alloc, &played, 7).as_slice(),
-        server_octets().as_slice()
-    );
-    assert_eq!(rt; (played.live, played.tally.closed), (1, 0));
-}
-
-/// Octets from a place to another.
-fn part<'a>(rt: &impl Abort, octets: &'a [u8], from: usize, to: usize) -> &'a [u8] {
-    assert!(rt; from <= to && to <= octets.len());
-    &octets[from..to]
-}
-
-/// What an operator is answered who gives these lines at second 5, and how the desk has ended.
-fn answers(rt: &impl Abort, alloc: Global, slots: u32, lines: &str) -> (Vec<u8>, Played) {
-    let mut script = Script::new(alloc);
-    script.opened(rt, alloc, 5 * SECOND, 3, ConnKind::Operator);
-    script.gives(rt, alloc, 5 * SECOND, 3, lines.as_bytes());
-    let played = play(rt, alloc, FILE, slots, script, &[], &[]);
-    (sent(rt, alloc, &played, 3), played)
-}
-
-#[test]
-fn an_operator_is_answered_line_by_line(rt: HostRuntime) {
-    let (text, played) = answers(
-        &rt,
-        rt.alloc(),
-        1,
-        "open 0 192.0.2.1:5000 plain 7 edge 0\n\
-        count 0 192.0.2.1:5000 plain 7\nopen 0 192.0.2.1:5000 plain 7 edge 0\n\
-        open 0 192.0.2.1:5000 auth 7 edge 0\nopen 1 192.0.2.1:5000 plain 8 edge 0\n\
-        set 0 192.0.2.1:5000 plain 8 edge\nlist\nclose 0 192.0.2.1:5000 plain 7\n\
-        open 0 192.0.2.1:5000 plain 7 edge 0\nfrob\nquit\nlist\n",
-    );
-    assert_eq!(rt;
-        text.as_slice(),
-        b"ok\nok 0\nrefused duplicate\nrefused mode clash\nrefused local\n\
-        refused no such\n0 192.0.2.1:5000 plain 7 0\nok 1\nok 0\nok\nrefused line\nbye\n"
-            .as_slice()
-    );
-    assert_eq!(rt; played.live, 1);
-    assert_eq!(rt;
-        played.tally,
-        DeskTally {
-            events: 2,
-            faults: 0,
-            closed: 1,
-            expired: 0,
-            end: DeskEnd::Quit,
-        }
-    );
-}
-
-#[test]
-fn a_line_is_refused_for_its_first_cause(rt: HostRuntime) {
-    let (text, _) = answers(
-        &rt,
-        rt.alloc(),
-        1,
-        "open 1 192.0.2.1:5000 plain 7 none 0\n\
-        open 0 192.0.2.1:5000 plain 7 none 0\nopen 0 192.0.2.1:5000 auth 7 edge 0\n\
-        open 0 192.0.2.1:5000 plain 7 edge 0\nopen 0 192.0.2.1:6000 plain 7 edge 0\n\
-        set 0 192.0.2.1:5000 plain 8 none\nset 0 192.0.2.1:5000 plain 7 edge\n\
-        close 0 192.0.2.1:5000 plain 8\ncount 0 192.0.2.1:5000 plain 8\n",
-    );
-    assert_eq!(rt;
-        text.as_slice(),
-        b"refused local\nrefused no config\nrefused no key\nok\n\
-        refused full live 1 reserved 0 retired 0 held 0\nrefused no config\nok\nrefused no such\n\
-        refused no such\n"
-            .as_slice()
-    );
-}
-
-#[test]
-fn a_wait_is_one_of_seconds(rt: HostRuntime) {
-    let alloc = rt.alloc();
-    let cases = [(SECOND - 1, 1, 0), (SECOND, 0, 1)];
-    for (moment, live, expired) in cases {
-        let mut script = Script::new(alloc);
-        script.opened(&rt, alloc, 0, 3, ConnKind::Operator);
-        script.gives(&rt, alloc, 0, 3, b"open 0 192.0.2.1:5000 plain 7 edge 1\n");
-        script.ticks(&rt, alloc, moment);
-        let played = play(&rt, alloc, FILE, 1, script, &[], &[]);
-        assert_eq!(rt;
-            (played.live, played.tally.expired, played.tally.closed),
-            (live, expired, 0)
-        );
-    }
-}
-
-#[test]
-fn a_silent_client_is_hung_up_after_900_seconds(rt: HostRuntime) {
-    let alloc = rt.alloc();
-    for (moment, times) in [(900 * SECOND - 1, 0), (900 * SECOND, 1)] {
-        let mut script = Script::new(alloc);
-        script.opened(&rt, alloc, 0, 7, ConnKind::Control);
-        script.ticks(&rt, alloc, moment);
-        let played = play(&rt, alloc, FILE, 1, script, &[], &[]);
-        assert_eq!(rt; hang_ups(&played, 7), times);
-    }
-}
-
-#[test]
-fn faults_end_a_desk_only_where_64_come_in_a_row(rt: HostRuntime) {
-    let alloc = rt.alloc();
-    for (count, events, end) in [(63, 1, DeskEnd::End), (64, 0, DeskEnd::Fault)] {
-        let mut failing = Vec::new(alloc);
-        for call in 1..=count {
-            failing.push(call).expect(&rt, "room");
-        }
-        let played = play(&rt, alloc, FILE, 1, Script::new(alloc), &failing, &[]);
-        assert_eq!(rt; (played.tally.events, played.tally.faults), (events, count));
-        assert_eq!(rt; played.tally.end, end);
-    }
-}
-
-/// What becomes of a client's session: octets that it gives, whether it closes its connection, and then how many sessions are
-/// live and were closed, and how often the connection was hung up. The client's octets up to the first number come first.
-#[test]
-fn a_connection_ends_as_the_table_says(rt: HostRuntime) {
-    let alloc = rt.alloc();
-    let octets = client_octets();
-    let mut two = [0; 32];
-    two[0] = 3;
-    two[7] = 2;
-    let mut one = two;
-    one[7] = 1;
-    let request = &octets[164..276];
-    let nothing: &[u8] = &[];
-    let cases = [
-        (0, nothing, true, 0, 0, 0),
-        (276, nothing, true, 0, 0, 0),
-        (308, nothing, true, 0, 1, 0),
-        (340, nothing, true, 1, 0, 0),
-        (308, two.as_slice(), false, 1, 0, 1),
-        (276, one.as_slice(), false, 0, 0, 1),
-        (308, request, false, 0, 1, 1),
-        (276, b"\x06".as_slice(), false, 0, 0, 1),
-    ];
-    for (count, more, closes, live, closed, times) in cases {
-        let mut script = Script::new(alloc);
-        script.opened(&rt, alloc, 0, 7, ConnKind::Control);
-        assert!(rt; count <= 340);
-        script.gives(&rt, alloc, 5 * SECOND, 7, &octets[..count]);
-        script.gives(&rt, alloc, 5 * SECOND, 7, more);
-        if closes {
-            script.closed(&rt, alloc, 5 * SECOND, 7);
-        }
-        let played = play(&rt, alloc, FILE, 1, script, &[], &[]);
-        assert_eq!(rt;
-            (played.live, played.tally.closed),
-            (live, closed),
-            "after {count}"
-        );
-        assert_eq!(rt; hang_ups(&played, 7), times, "after {count}");
-    }
-}
-
-#[test]
-fn a_send_that_fails_ends_its_connection(rt: HostRuntime) {
-    let alloc = rt.alloc();
-    let octets = client_octets();
-    for call in 1..=4 {
-        let mut script = Script::new(alloc);
-        script.opened(&rt, alloc, 0, 7, ConnKind::Control);
-        script.gives(&rt, alloc, 5 * SECOND, 7, part(&rt, &octets, 0, 308));
-        let played = play(&rt, alloc, FILE, 1, script, &[], &[call]);
-        assert_eq!(rt;
-            (played.tally.faults, hang_ups(&played, 7)),
-            (1, 1),
-            "call {call}"
-        );
-        assert_eq!(rt; played.live, 0, "call {call}");
-    }
-}
-
-#[test]
-fn a_33rd_connection_is_hung_up_at_once(rt: HostRuntime) {
-    let alloc = rt.alloc();
-    let mut script = Script::new(alloc);
-    for conn in 0..33 {
-        script.opened(&rt, alloc, 0, conn, ConnKind::Operator);
-    }
-    let played = play(&rt, alloc, FILE, 1, script, &[], &[]);
-    assert_eq!(rt; (hang_ups(&played, 31), hang_ups(&played, 32)), (0, 1));
-}
-
-#[test]
-fn a_line_without_an_end_is_refused_at_octet_513(rt: HostRuntime) {
-    let alloc = rt.alloc();
-    let mut script = Script::new(alloc);
-    script.opened(&rt, alloc, 0, 3, ConnKind::Operator);
-    script.gives(&rt, alloc, 0, 3, &[b'x'; 600]);
-    let played = play(&rt, alloc, FILE, 1, script, &[], &[]);
-    assert_eq!(rt;
-        sent(&rt, alloc, &played, 3).as_slice(),
-        b"refused line\n".as_slice()
-    );
-    assert_eq!(rt; hang_ups(&played, 3), 1);
-}
-
-#[test]
-fn a_key_that_is_taken_and_a_full_table_are_told_alike(rt: HostRuntime) {
-    let alloc = rt.alloc();
-    let octets = client_octets();
-    let mut again = octets;
-    again[177] = 0x71;
-    let mut script = Script::new(alloc);
-    script.opened(&rt, alloc, 0, 7, ConnKind::Control);
-    script.gives(&rt, alloc, 5 * SECOND, 7, part(&rt, &octets, 0, 276));
-    script.gives(&rt, alloc, 5 * SECOND, 7, part(&rt, &octets, 164, 276));
-    script.gives(&rt, alloc, 5 * SECOND, 7, part(&rt, &again, 164, 276));
-    let played = play(&rt, alloc, FILE, 1, script, &[], &[]);
-    let all = sent(&rt, alloc, &played, 7);
-    let mut refused = [0; 96];
-    refused[0] = 5;
-    refused[48] = 5;
-    assert_eq!(rt; all.len(), 256);
-    assert_eq!(rt; &all[160..], refused.as_slice());
-}
-
-#[test]
-fn a_session_that_an_operator_opened_anew_outlives_the_connection(rt: HostRuntime) {
-    let alloc = rt.alloc();
-    let octets = client_octets();
-    let mut script = Script::new(alloc);
-    script.opened(&rt, alloc, 0, 7, ConnKind::Control);
-    script.gives(&rt, alloc, 5 * SECOND, 7, part(&rt, &octets, 0, 308));
-    script.opened(&rt, alloc, 5 * SECOND, 3, ConnKind::Operator);
-    script.gives(
-        &rt,
-        alloc,
-        5 * SECOND,
-        3,
-        b"close 0 192.0.2.1:6000 twamp 0\nopen 0 192.0.2.1:6000 twamp 0 edge 0\n",
-    );
-    script.closed(&rt, alloc, 6 * SECOND, 7);
-    let played = play(&rt, alloc, FILE, 2, script, &[], &[]);
-    assert_eq!(rt;
-        sent(&rt, alloc, &played, 3).as_slice(),
-        b"ok 0\nok\n".as_slice()
-    );
-    assert_eq!(rt; (played.live, played.tally.closed), (1, 1));
+    events
 }
