@@ -9,6 +9,7 @@
 #include <dlfcn.h>
 #include <errno.h>
 #include <fcntl.h>
+#include <stdatomic.h>
 #include <stdio.h>
 #include <stdlib.h>
 #include <string.h>
@@ -18,12 +19,13 @@ enum fault { MEMORY, READ, WRITE, FILE_READ, SHORT_READ, SHORT_WRITE, FAULTS };
 
 static const char *const names[FAULTS] = { "memory", "read", "write", "file-read", "short-read", "short-write" };
 static long wanted[FAULTS];
-static long counts[FAULTS];
+static atomic_long counts[FAULTS];
 static int counting;
 static void *(*next_malloc)(size_t);
 static void *(*next_realloc)(void *, size_t);
 static ssize_t (*next_read)(int, void *, size_t);
 static ssize_t (*next_write)(int, const void *, size_t);
+static void (*next_exit)(int);
 
 static void *find(const char *name)
 {
@@ -52,6 +54,7 @@ __attribute__((constructor)) static void begin(void)
     next_realloc = find("realloc");
     next_read = find("read");
     next_write = find("write");
+    next_exit = find("_exit");
     read_faults(getenv("FAULTS"));
     counting = 1;
 }
@@ -63,16 +66,25 @@ __attribute__((destructor)) static void end(void)
     counting = 0;
     if (name == NULL)
         return;
-    int length = snprintf(line, sizeof line, "%ld %ld %ld %ld\n", counts[MEMORY], counts[READ], counts[WRITE], counts[FILE_READ]);
+    long memory = counts[MEMORY], reads = counts[READ], writes = counts[WRITE], file_reads = counts[FILE_READ];
+    int length = snprintf(line, sizeof line, "%ld %ld %ld %ld\n", memory, reads, writes, file_reads);
     int file = open(name, O_WRONLY | O_CREAT | O_TRUNC, 0600);
     if (file < 0 || next_write(file, line, (size_t)length) != length)
         abort();
 }
 
-/* Counts a call, and says whether it is the one that is refused. */
+/* A program may end past the destructors. */
+__attribute__((noreturn)) void _exit(int status)
+{
+    end();
+    next_exit(status);
+    abort();
+}
+
+/* Counts a call, of whichever thread, and says whether it is the one that is refused. */
 static int is_refused(enum fault fault)
 {
-    return counting && ++counts[fault] == wanted[fault];
+    return counting && atomic_fetch_add(&counts[fault], 1) + 1 == wanted[fault];
 }
 
 static size_t at_most(enum fault fault, size_t count)

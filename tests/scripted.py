@@ -848,7 +848,7 @@ def the_example_is_what_its_text_says(program):
 
 def demo(program, *words):
     return subprocess.run(
-        [TOP / "demo", "--program", program, *words], capture_output=True, text=True, timeout=SECONDS,
+        [TOP / "demo", "--program", program, "replay", *words], capture_output=True, text=True, timeout=SECONDS,
     )
 
 

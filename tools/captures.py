@@ -144,13 +144,17 @@ def in_udp(moment, source, destination, ttl, udp):
 
 def write(datagrams):
     """A capture of raw IP packets with moments in nanoseconds."""
+    return write_packets((datagram.moment, packet_of(datagram)) for datagram in datagrams)
+
+
+def write_packets(packets):
+    """The same, of packets with their moments."""
     head = struct.pack("<IHHiIII", NANOSECOND_PCAP, 2, 4, 0, 0, 262_144, RAW_IP)
-    return head + b"".join(map(frame_of, datagrams))
+    return head + b"".join(frame_of(*each) for each in packets)
 
 
-def frame_of(datagram):
-    packet = packet_of(datagram)
-    seconds, nanoseconds = divmod(datagram.moment, 10**9)
+def frame_of(moment, packet):
+    seconds, nanoseconds = divmod(moment, 10**9)
     return struct.pack("<IIII", seconds % 2**32, nanoseconds, len(packet), len(packet)) + packet
 
 
