@@ -24,7 +24,7 @@ def tlv(kind, value):
 
 DATAGRAMS = (
     ("no TLV", b""),
-    ("Extra Padding, 16 octets", tlv(1, bytes(16))),
+    ("Extra Padding", tlv(1, bytes(16))),
     ("Direct Measurement", tlv(5, (3).to_bytes(4, "big") + bytes(8))),
 )
 
@@ -62,7 +62,7 @@ def told_of(reply):
 
 def exchange(sender, sequence, what, tail):
     sender.sendto(request(sequence, tail), REFLECTOR)
-    print(f"  request {sequence}, {what:<26}{told_of(sender.recv(65_536))}")
+    print(f"  request {sequence}, {what:<20}{told_of(sender.recv(65_536))}")
 
 
 def stampctl(*words):
