@@ -5,7 +5,10 @@ mod requests;
 mod script;
 mod stage;
 
+ghost use Rattle.std.specs.Prelude.{◌<◌, length};
+
 use crate::{Tally, WorkEnd};
+use net_io::ScriptPort;
 use refl_types::{Mode, Silent, Unanswered};
 use reflect_core::Judged;
 use requests::{PLAIN, REQUEST, filled, request, signed, with_tail};
@@ -127,7 +130,7 @@ fn many_tlvs_fill_a_datagram(rt: HostRuntime) {
     let port = one_of(&rt, rt.alloc(), &usual, &whole);
     let reply = reply_at(&port, 2);
     assert!(rt; reply.len() == 65_507);
-    assert!(rt; reply.ends_with(&whole[PLAIN..]));
+    assert!(rt; reply.get(PLAIN..) == whole.get(PLAIN..));
 }
 
 /// What 63 or 64 failures in a row lead to.
@@ -172,21 +175,24 @@ fn who_asks_for_no_reply_gets_none(rt: HostRuntime) {
     assert!(rt; sendings(&port, 0) == 0);
 }
 
+/// What a worker takes under a limit and a budget, and how it ends.
+fn ended(stage: &mut Stage, port: &mut ScriptPort, limit: u64, turns: u64) -> (u64, WorkEnd)
+    requires { 0 < length port.old.bound }
+    ensures { 0 < length port.new.bound }
+{
+    let tally = stage.work(port, limit, turns);
+    (tally.taken, tally.end)
+}
+
 #[test]
 fn a_worker_ends_by_the_first_end_that_is_due(rt: HostRuntime) {
     let mut stage = Stage::new(&rt, rt.alloc(), 4);
     let mut port = Script::with_pauses(&rt, rt.alloc(), 3, 3);
-    for (limit, turns, taken, end) in [
-        (0, 0, 0, WorkEnd::Budget),
-        (0, 3, 0, WorkEnd::Budget),
-        (2, 2, 2, WorkEnd::Limit),
-        (1, 5, 1, WorkEnd::Limit),
-        (1, 1, 0, WorkEnd::End),
-    ] {
-        let tally = stage.work(&mut port, limit, turns);
-        assert!(rt; tally.taken == taken);
-        assert!(rt; tally.end == end);
-    }
+    assert!(rt; ended(&mut stage, &mut port, 0, 0) == (0, WorkEnd::Budget));
+    assert!(rt; ended(&mut stage, &mut port, 0, 3) == (0, WorkEnd::Budget));
+    assert!(rt; ended(&mut stage, &mut port, 2, 2) == (2, WorkEnd::Limit));
+    assert!(rt; ended(&mut stage, &mut port, 1, 5) == (1, WorkEnd::Limit));
+    assert!(rt; ended(&mut stage, &mut port, 1, 1) == (0, WorkEnd::End));
 }
 
 #[test]
@@ -237,10 +243,10 @@ fn two_workers_and_a_desk_serve_one_table(rt: HostRuntime) {
     let mut stage = Stage::new(&rt, rt.alloc(), 4);
     stage.open(&rt, &plain_key(), &config(&rt, USUAL_TLVS, None));
     let mut port = Script::with_pauses(&rt, rt.alloc(), 0, 5);
-    for _turn in 0..2 {
-        assert!(rt; stage.work(&mut port, 1, 100).sent == 1);
-        assert!(rt; stage.work_beside(&mut port, 1, 100).sent == 1);
-    }
+    assert!(rt; stage.work(&mut port, 1, 100).sent == 1);
+    assert!(rt; stage.work_beside(&mut port, 1, 100).sent == 1);
+    assert!(rt; stage.work(&mut port, 1, 100).sent == 1);
+    assert!(rt; stage.work_beside(&mut port, 1, 100).sent == 1);
     assert!(rt; stage.close(&rt, &plain_key()) == 4);
     assert!(rt; stage.work(&mut port, 0, 100).no_session == 1);
     for number in 0..4 {
@@ -258,12 +264,8 @@ fn a_turn_says_what_became_of_a_datagram(rt: HostRuntime) {
     script.give(&rt, &sender(5000), &request(8));
     script.give(&rt, &sender(5000), &REQUEST);
     let mut port = script.port(&rt, &[], &[], &[2]);
-    for want in [
-        Ok(()),
-        Err(Unanswered::Short),
-        Err(Unanswered::NoSession),
-        Err(Unanswered::SendFault),
-    ] {
-        assert!(rt; stage.turn(&mut port) == want);
-    }
+    assert!(rt; stage.turn(&mut port) == Ok(()));
+    assert!(rt; stage.turn(&mut port) == Err(Unanswered::Short));
+    assert!(rt; stage.turn(&mut port) == Err(Unanswered::NoSession));
+    assert!(rt; stage.turn(&mut port) == Err(Unanswered::SendFault));
 }
