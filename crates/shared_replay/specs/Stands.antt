@@ -38,7 +38,8 @@ pub record IsDesk (t : rule.Table) (b : Book) : Type 0 where
   pub nobody : b.reserved ≡ []
   pub few : length b.live ≤ 1024
 
--- rows are kept with the configurations that the desk wrote, however rows stand that it hasn't written whole
+-- Each row that is kept has the configuration that the desk wrote: it is so for whatever rows stand for, as long as those that
+-- the desk has written whole stand for theirs
 abbrev pub AreKept : List Step → Places → Type 0
 AreKept ds known = (config : ℕ → ConfigParts) → ((r : ℕ) → IsComplete ds r → config r ≡ config_at ds r) → KeptAs config known
 
@@ -71,11 +72,11 @@ pub record Kept : Type 0 where
   pub book : Book
   pub locals : List Endpoint
 
--- the records of no longer stream
+-- the records are no longer than the longest stream
 abbrev pub AreWithin : List Item → Type 0
 AreWithin records = length (spellings records) ≤ 2 ^ 30
 
--- It stands for the table after these records, for which no more sessions were reserved than there are records
+-- It stands for the table after these records, and no more sessions were reserved so far than there are records
 pub record Stands (k : Kept) (records : List Item) : Type 0 where
   pub holds : HoldsTable k.book (table_after empty_table records)
   pub locals : k.locals ≡ (table_after empty_table records).locals
@@ -83,13 +84,13 @@ pub record Stands (k : Kept) (records : List Item) : Type 0 where
 
 -- ---- one record
 
--- The answer to a datagram was written at the front, n octets, and the table after it is kept, where the book has held a table in
--- which sessions of mode Auth have HMAC keys
+-- the answer to a datagram was written at the front, n octets, and the book holds the table after it
 pub record IsArrived (t : Table) (d : Datagram) (after_it : Book) (before written : List ℕ) (n : ℕ) : Type 0 where
   pub octets : written ≡ answer_octets (answer t (Arrives d)) ++ drop n before
   pub len : n ≡ length (answer_octets (answer t (Arrives d)))
   pub holds : HoldsTable after_it (after t (Arrives d))
 
+-- so it is where the book has held a table in which sessions of mode Auth have HMAC keys, and these are its addresses
 abbrev pub HasArrived : Book → Table → List Endpoint → Datagram → Book → List ℕ → List ℕ → ℕ → Type 0
 HasArrived book t locals d after_it before written n = HoldsTable book t → AreKeyed t.sessions → locals ≡ t.locals → IsArrived t d after_it before written n
 
