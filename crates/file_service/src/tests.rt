@@ -214,14 +214,38 @@ fn a_file_with_a_fault_or_too_many_workers_serves_nothing(rt: HostRuntime) -> Re
 }
 
 #[test]
-fn a_report_that_cannot_be_written_ends_with_8(rt: HostRuntime) -> Result<(), Fail> {
+fn a_report_that_cannot_be_written_ends_with_8_whatever_failed(
+    rt: HostRuntime,
+) -> Result<(), Fail> {
+    let alloc = rt.alloc();
+    let unwritten = Case {
+        write: 1,
+        status: 8,
+        written: b"",
+        ..WELL
+    };
+    is_answered(&rt, alloc, &unwritten)?;
+    is_answered(
+        &rt,
+        alloc,
+        &Case {
+            nexts: 64,
+            receives: 64,
+            ..unwritten
+        },
+    )
+}
+
+#[test]
+fn a_budget_that_is_spent_with_the_64th_failure_is_told(rt: HostRuntime) -> Result<(), Fail> {
     is_answered(
         &rt,
         rt.alloc(),
         &Case {
-            write: 1,
-            status: 8,
-            written: b"",
+            text: "locals = [\"192.0.2.10:862\"]\nworkers = 1\nturns = 64\n[configs.edge]\n",
+            receives: 64,
+            status: 11,
+            written: b"worker 0 taken 0 sent 0 nosession 0 short 0 badhmac 0 changed 0 noreply 0 sendfault 0 recvfault 64 budget\ndesk events 1 faults 0 end\nsessions live 0 closed 0 expired 0\nstampd: budget spent\n",
             ..WELL
         },
     )
