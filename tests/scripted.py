@@ -1144,17 +1144,26 @@ def reconfigured_under_traffic(operator, sender, port, count):
     return None if found == changes else f"the answers to the changes: {found!r}"
 
 
+def answer_to(operator, line):
+    """All lines of the answer to an operator's line."""
+    operator.sendall(line + b"\n")
+    found = b""
+    while not found.endswith(b"\n") or not found.splitlines()[-1].startswith((b"ok", b"refused")):
+        piece = operator.recv(4096)
+        if not piece:
+            break
+        found += piece
+    return found
+
+
 def comes_to(operator, line, wanted):
     """What is wrong where a line isn't answered so within ten seconds."""
     until = time.monotonic() + 10
-    while True:
-        operator.sendall(line + b"\n")
-        found = operator.recv(4096)
-        if found == wanted:
-            return None
+    while (found := answer_to(operator, line)) != wanted:
         if time.monotonic() > until:
             return f"{line!r}: {found!r} in place of {wanted!r}"
         time.sleep(0.2)
+    return None
 
 
 @case
