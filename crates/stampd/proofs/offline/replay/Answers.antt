@@ -1,8 +1,6 @@
 use Rattle.std.proofs.Common.{◌≡◌, ℕ, List, [], ◌∷◌, ◌++◌, length, inl, inr, refl, subst, sym, ap, ◌∙◌, arith}
 use Rattle.std.proofs.lemmas.List.{length-append, length-drop, append-nil, nil_from_length}
 use Rattle.replay_format.specs.View.{IsFront, IsBegun, IsForeign}
-use Rattle.replay_table.specs.Table.{empty_table}
-use Rattle.replay_table.specs.Outcomes.{table_after}
 use Rattle.stampd.specs.Buffers.{pending, due}
 use Rattle.stampd.specs.Replay.{LeavesGrammar}
 use Rattle.stampd.proofs.Going.{going_none, going_same, going_more, going_written, going_record, end_done, end_cut, end_left, end_stopped, end_stopped_leaving, begun_short, front_length}
@@ -32,7 +30,7 @@ records-preserved-in-Answered g c =
     let item = c.in-Answered.ensures.0 in
     let n = c.in-Answered.len in
     let f : IsFront (pending c.records.ahead) item n = subst (λ (l : List ℕ). IsFront l item n) c.pending.ensures c.in-Answered.ensures.1 in
-    let a = c.in-Answered.ensures.3 (table_after empty_table inv.going.0) inv.going.1.stands in
+    let a = c.in-Answered.ensures.3 inv.going.0 inv.going.1.stands inv.going.1.limit in
     record {
       going = (
         inv.going.0 ++ item ∷ [],
