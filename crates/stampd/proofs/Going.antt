@@ -14,7 +14,7 @@ use Rattle.replay_format.proofs.RecordFacts.{one_front}
 use Rattle.replay_format.proofs.Formats.{item_obeys, spelling_short}
 use Rattle.replay_table.specs.Table.{Table, empty_table}
 use Rattle.replay_table.specs.Outcomes.{answer, after, answers, answers_from, table_after}
-use Rattle.replay_table.specs.Stands.{Kept, Stands}
+use Rattle.shared_replay.specs.Stands.{Kept, Stands}
 use Rattle.stampd.specs.Replay.{IsStream, IsNoStream, Takes, LeavesGrammar, answers_and_offset, IsDone, HasLeft, WasCutOff, WasStopped}
 
 -- ---- one record more
@@ -23,11 +23,6 @@ answers_from-push : (t : Table) (records : List Item) (item : Item) → answers_
 unfolding answers_from table_after
 answers_from-push t [] item = append-nil (answer_octets (answer t item))
 answers_from-push t (r ∷ rs) item = ap (λ (l : List ℕ). answer_octets (answer t r) ++ l) (answers_from-push (after t r) rs item) ∙ sym (append_assoc (answer_octets (answer t r)) (answers_from (after t r) rs) (answer_octets (answer (table_after (after t r) rs) item)))
-
-table_after-push : (t : Table) (records : List Item) (item : Item) → table_after t (records ++ item ∷ []) ≡ after (table_after t records) item
-unfolding table_after
-table_after-push t [] item = refl
-table_after-push t (r ∷ rs) item = table_after-push (after t r) rs item
 
 spellings-cons : (r : Item) (rs : List Item) → spellings (r ∷ rs) ≡ spelling r ++ spellings rs
 spellings-cons r rs = flat_map-cons spelling r rs
@@ -67,10 +62,10 @@ pub record Going (left0 left w0 w : Option (List ℕ)) (sessions : Kept) (pendin
   pub sent : List ℕ
   pub out : Appends w0 w sent
   pub joined : sent ++ due ≡ answers records
-  pub stands : Stands sessions (table_after empty_table records)
+  pub stands : Stands sessions records
   pub consumed : passed ≡ length (spellings records)
 
-pub going_none : (left w : Option (List ℕ)) (sessions : Kept) → Stands sessions empty_table → Going left left w w sessions [] [] 0 []
+pub going_none : (left w : Option (List ℕ)) (sessions : Kept) → Stands sessions [] → Going left left w w sessions [] [] 0 []
 unfolding answers_from table_after
 going_none left w sessions st = record { fits = tt; limit = omega arith; input = consumes_none left; sent = []; out = appends_none w; joined = refl; stands = st; consumed = refl }
 
@@ -120,7 +115,7 @@ module _ (left0 left w0 w : Option (List ℕ)) (sessions : Kept) (pending due : 
   }
 
   pub going_record : (sessions' : Kept) (pending' due' : List ℕ) (n : ℕ) (item : Item) → IsFront pending item n → passed + n ≤ 2 ^ 30
-      → due' ≡ due ++ answer_octets (answer (table_after empty_table records) item) → Stands sessions' (after (table_after empty_table records) item) → pending' ≡ drop n pending
+      → due' ≡ due ++ answer_octets (answer (table_after empty_table records) item) → Stands sessions' (records ++ item ∷ []) → pending' ≡ drop n pending
       → Going left0 left w0 w sessions' pending' due' (passed + n) (records ++ item ∷ [])
   going_record sessions' pending' due' n item f within e stands cut = record {
     fits = AllFit-push records item h.fits f.fits;
@@ -131,7 +126,7 @@ module _ (left0 left w0 w : Option (List ℕ)) (sessions : Kept) (pending due : 
     sent = h.sent;
     out = h.out;
     joined = ap (λ (l : List ℕ). h.sent ++ l) e ∙ sym (append_assoc h.sent due (answer_octets (answer (table_after empty_table records) item))) ∙ ap (λ (l : List ℕ). l ++ answer_octets (answer (table_after empty_table records) item)) h.joined ∙ sym (answers_from-push empty_table records item);
-    stands = subst (λ (t : Table). Stands sessions' t) (sym (table_after-push empty_table records item)) stands;
+    stands = stands;
     consumed = omega (arith, ap length (spellings-push records item), length-append (spellings records) (spelling item), h.consumed, f.len);
   }
 

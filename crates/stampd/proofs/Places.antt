@@ -1,6 +1,7 @@
 -- The places of a buffer.
-use Rattle.std.proofs.Common.{◌≡◌, ℕ, ◌+◌, ◌-◌, ◌<◌, ◌≤◌, List, [], ◌∷◌, ◌++◌, length, take, drop, get_or, refl, sym, ap, ◌∙◌, arith}
-use Rattle.std.proofs.lemmas.List.{drop-take, drop-drop, length-take}
+use Rattle.std.proofs.Common.{◌≡◌, ℕ, ◌+◌, ◌-◌, ◌<◌, ◌≤◌, List, [], ◌∷◌, ◌++◌, length, take, drop, get_or, refl, sym, ap, ◌∙◌, append_assoc, arith}
+use Rattle.std.proofs.lemmas.List.{drop-take, drop-drop, length-append, length-take, length-take-le, take_at}
+use borrow.Rule.Slice.PartMut.{put_mid, post_of}
 use Rattle.stampd.specs.Buffers.{between}
 
 -- ---- places
@@ -23,6 +24,16 @@ pub between_same : (old new : List ℕ) (from to : ℕ) → from ≡ 0 → take 
 between_same old new from to zero e =
     let b : to - from ≡ to = omega arith in
     rw (b, zero) e
+
+-- octets that were written from a place on stand behind those before it
+pub put_behind : (octets part : List ℕ) (at k n : ℕ) (written rest : List ℕ) → at ≤ length octets → part ≡ written ++ rest → n ≡ length written
+    → take (at + n) (put_mid at k octets part) ≡ take at octets ++ written
+put_behind octets part at k n written rest within e len =
+    let front = take at octets in
+    let more = post_of at k octets in
+    let parted : front ++ (part ++ more) ≡ (front ++ written) ++ (rest ++ more) =
+        ap (λ (l : List ℕ). front ++ (l ++ more)) e ∙ ap (λ (l : List ℕ). front ++ l) (append_assoc written rest more) ∙ sym (append_assoc front written (rest ++ more)) in
+    ap (take (at + n)) parted ∙ take_at (front ++ written) (rest ++ more) (at + n) (omega (arith, length-append front written, length-take-le at octets within, len))
 
 -- a list of one element
 pub one_element : {A : Type 0} (ws : List A) (w : A) → 1 ≤ length ws → length ws < 2 → w ≡ get_or ws 0 w → ws ≡ w ∷ []

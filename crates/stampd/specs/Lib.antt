@@ -1,4 +1,5 @@
 pub mod Buffers
 pub mod Replay
 pub mod Command
+pub mod Answering
 pub mod Taking

@@ -1,20 +1,17 @@
 -- What is done with the octets at the front of a stream: the first record is answered behind what is due, or none is.
-use Rattle.std.specs.Prelude.{ℕ, ◌≡◌, ◌<◌, ◌≤◌, List, ◌++◌}
+use Rattle.std.specs.Prelude.{ℕ, ◌≡◌, ◌<◌, ◌≤◌, List}
 use Rattle.replay_format.specs.Records.{Item}
 use Rattle.replay_format.specs.View.{IsFront, IsBegun, IsForeign}
-use Rattle.replay_format.specs.Answers.{answer_octets}
-use Rattle.replay_table.specs.Table.{Table}
-use Rattle.replay_table.specs.Outcomes.{answer, after}
-use Rattle.replay_table.specs.Stands.{Kept, Stands}
+use Rattle.shared_replay.specs.Stands.{Kept}
 use Rattle.stampd.specs.declared.outbox.Outbox.{Outbox}
 use Rattle.stampd.specs.declared.outbox.Taken.{Taken}
 use Rattle.stampd.specs.declared.outbox.Taken.TheVariants as taken
 use Rattle.stampd.specs.Buffers.{due}
+use Rattle.stampd.specs.Answering.{AnswersBehind}
 
--- the answer to a record stands behind what was due, and the sessions are those after the record
+-- the answer to a record stands behind what was due
 abbrev pub AnswersItem : Item → Outbox → Outbox → Kept → Kept → Type 0
-AnswersItem item box box' sessions sessions' =
-    (t : Table) → Stands sessions t → (due box' ≡ due box ++ answer_octets (answer t item)) × Stands sessions' (after t item)
+AnswersItem item box box' sessions sessions' = AnswersBehind item (due box) (due box') sessions sessions'
 
 -- the front of octets, of which a record may have as many as the limit
 abbrev pub IsTaken : Taken → List ℕ → ℕ → Outbox → Outbox → Kept → Kept → Type 0

@@ -18,7 +18,7 @@ use crate::read_ahead::ReadAhead;
 use crate::words::{file_to_check, is_replay};
 use conf_check::{check_file, write_line};
 use port_io::{Files, Sink, Source};
-use replay_table::Sessions;
+use shared_replay::Sessions;
 use std::alloc::Global;
 
 /// Octets of the longest stream.

@@ -7,16 +7,14 @@ ghost use Rattle.refl_types.specs.Limits.{datagram_limit};
 ghost use Rattle.replay_format.specs.View.{item_of, IsMeasured};
 ghost use Rattle.replay_format.specs.Records.{Arrives, Fits, datagram_of};
 ghost use Rattle.replay_format.specs.Answers.{Left, answer_limit, answer_octets};
-ghost use Rattle.replay_table.specs.Table.{Table};
-ghost use Rattle.replay_table.specs.Outcomes.{answer, after};
-ghost use Rattle.replay_table.specs.Stands.{Stands};
+ghost use Rattle.stampd.specs.Answering.{AnswersBehind};
 
 use port_io::{Failed, Sink, write_all};
 use refl_types::{Memory, Meta};
 use replay_format::{
     Outcome, Parsed, Record, read_ipv4_datagram, read_ipv6_datagram, read_record, write_outcome,
 };
-use replay_table::{ANSWER_ROOM, Sessions};
+use shared_replay::{ANSWER_ROOM, Sessions};
 use std::alloc::Global;
 
 /// Octets of the buffer.
@@ -171,7 +169,7 @@ fn answer_behind(sessions: &mut Sessions, item: &Record, octets: &mut [u8], at: 
     requires measured { IsMeasured item.now }
     requires fits { Fits (item_of item.now) }
     ensures fits { result ≤ answer_limit }
-    ensures answer { (t : Table) → Stands sessions.old t → (take (at + result) octets.new ≡ take at octets.old ++ answer_octets (answer t (item_of item.now))) × Stands sessions.new (after t (item_of item.now)) }
+    ensures answer { AnswersBehind (item_of item.now) (take at octets.old) (take (at + result) octets.new) sessions.old sessions.new }
 {
     sessions.answer(item, &mut octets[at..])
 }
@@ -190,7 +188,7 @@ fn reply_behind(
     requires measured { meta.now.len ≡ length text.now }
     requires limit { length text.now ≤ datagram_limit }
     ensures fits { result ≤ answer_limit }
-    ensures answer { (t : Table) → Stands sessions.old t → (take (at + result) octets.new ≡ take at octets.old ++ answer_octets (answer t (Arrives (datagram_of meta.now t3 text.now)))) × Stands sessions.new (after t (Arrives (datagram_of meta.now t3 text.now))) }
+    ensures answer { AnswersBehind (Arrives (datagram_of meta.now t3 text.now)) (take at octets.old) (take (at + result) octets.new) sessions.old sessions.new }
 {
     sessions.arrive(meta, t3, text, &mut octets[at..])
 }

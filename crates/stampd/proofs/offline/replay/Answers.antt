@@ -1,8 +1,7 @@
 use Rattle.std.proofs.Common.{◌≡◌, ℕ, List, [], ◌∷◌, ◌++◌, length, inl, inr, refl, subst, sym, ap, ◌∙◌, arith}
 use Rattle.std.proofs.lemmas.List.{length-append, length-drop, append-nil, nil_from_length}
+use Rattle.port_io.specs.Outside.{Rises}
 use Rattle.replay_format.specs.View.{IsFront, IsBegun, IsForeign}
-use Rattle.replay_table.specs.Table.{empty_table}
-use Rattle.replay_table.specs.Outcomes.{table_after}
 use Rattle.stampd.specs.Buffers.{pending, due}
 use Rattle.stampd.specs.Replay.{LeavesGrammar}
 use Rattle.stampd.proofs.Going.{going_none, going_same, going_more, going_written, going_record, end_done, end_cut, end_left, end_stopped, end_stopped_leaving, begun_short, front_length}
@@ -32,7 +31,7 @@ records-preserved-in-Answered g c =
     let item = c.in-Answered.ensures.0 in
     let n = c.in-Answered.len in
     let f : IsFront (pending c.records.ahead) item n = subst (λ (l : List ℕ). IsFront l item n) c.pending.ensures c.in-Answered.ensures.1 in
-    let a = c.in-Answered.ensures.3 (table_after empty_table inv.going.0) inv.going.1.stands in
+    let a = c.in-Answered.ensures.3 inv.going.0 inv.going.1.stands inv.going.1.limit in
     record {
       going = (
         inv.going.0 ++ item ∷ [],
@@ -59,6 +58,10 @@ returns-in-TooLong-clause-output g c = λ e.
     let h = going_written _ _ _ _ _ _ _ _ _ inv.going.1 (g.K.Sink.written c.make_room.new.out) room.0 (due c.make_room.new.self) room.1 room.2 in
     let s = going_same _ _ _ _ _ _ _ _ _ h c.take.new.sessions (due c.take.new.self) c.in-TooLong.ensures.1 c.in-TooLong.ensures.2 in
     end_stopped_leaving _ _ _ _ _ _ _ _ _ s (g.K.Sink.written c.leave.new.out) (inr (inr (inl (c.in-TooLong.ensures.0.0, c.in-TooLong.ensures.0.1, subst (λ (l : List ℕ). IsFront l c.in-TooLong.ensures.0.0 c.in-TooLong.ensures.0.1) c.pending.ensures c.in-TooLong.ensures.0.2, omega (arith, h.consumed, inv.passed, c.in-TooLong.ensures.0.3))))) (c.leave.ensures.output e)
+
+pub returns-in-TooLong-clause-write_fault : goal.returns-in-TooLong-clause-write_fault
+returns-in-TooLong-clause-write_fault g c = λ e.
+    subst (λ (n : ℕ). Rises n (g.K.Sink.faults c.leave.new.out)) (c.in-Ok-make_room.ensures.still ∙ c.records.invariant.out) (c.leave.ensures.cause e)
 
 pub returns-in-Bad-clause-grammar : goal.returns-in-Bad-clause-grammar
 returns-in-Bad-clause-grammar g c = λ e.
@@ -91,6 +94,10 @@ returns-then-passed-held-gt-STREAM_LIMIT-clause-output g c = λ e.
     let h = going_written _ _ _ _ _ _ _ _ _ inv.going.1 (g.K.Sink.written c.make_room.new.out) room.0 (due c.make_room.new.self) room.1 room.2 in
     let s = going_same _ _ _ _ _ _ _ _ _ h c.take.new.sessions (due c.take.new.self) c.in-More.ensures.1 c.in-More.ensures.2 in
     end_stopped_leaving _ _ _ _ _ _ _ _ _ s (g.K.Sink.written c.leave-then-passed-held-gt-STREAM_LIMIT.new.out) (inr (inr (inr (subst IsBegun c.pending.ensures c.in-More.ensures.0, omega (arith, h.consumed, ap length c.pending-held.ensures))))) (c.leave-then-passed-held-gt-STREAM_LIMIT.ensures.output e)
+
+pub returns-then-passed-held-gt-STREAM_LIMIT-clause-write_fault : goal.returns-then-passed-held-gt-STREAM_LIMIT-clause-write_fault
+returns-then-passed-held-gt-STREAM_LIMIT-clause-write_fault g c = λ e.
+    subst (λ (n : ℕ). Rises n (g.K.Sink.faults c.leave-then-passed-held-gt-STREAM_LIMIT.new.out)) (c.in-Ok-make_room.ensures.still ∙ c.records.invariant.out) (c.leave-then-passed-held-gt-STREAM_LIMIT.ensures.cause e)
 
 pub returns-in_default-flush-clause-output : goal.returns-in_default-flush-clause-output
 returns-in_default-flush-clause-output g c = λ _.
@@ -157,6 +164,10 @@ returns-then-count-eq0-clause-output g c = λ e.
     let same : pending c.fill.new.self ≡ pending c.records.ahead = cut_off (pending c.records.ahead) (pending c.fill.new.self) got.0 c.in-Ok-fill.count got.1 c.if-count-eq0.true got.2 in
     let leaves : LeavesGrammar (g.S.Source.left c.fill.new.input) inv.going.0 (pending c.fill.new.self) = inr (inl (subst IsBegun (c.pending.ensures ∙ sym same) c.in-More.ensures.0, omega (arith, ap length same, ap length c.pending-held.ensures), got.4 c.if-count-eq0.true)) in
     end_stopped_leaving _ _ _ _ _ _ _ _ _ m (g.K.Sink.written c.leave-then-count-eq0.new.out) leaves (c.leave-then-count-eq0.ensures.output e)
+
+pub returns-then-count-eq0-clause-write_fault : goal.returns-then-count-eq0-clause-write_fault
+returns-then-count-eq0-clause-write_fault g c = λ e.
+    subst (λ (n : ℕ). Rises n (g.K.Sink.faults c.leave-then-count-eq0.new.out)) (c.in-Ok-flush.ensures.still ∙ c.in-Ok-make_room.ensures.still ∙ c.records.invariant.out) (c.leave-then-count-eq0.ensures.cause e)
 
 pub records-preserved : goal.records-preserved
 records-preserved g c =
