@@ -64,13 +64,18 @@ def read_report(text):
     return Report(told, *of_desk, *of_sessions)
 
 
-def free_ports(count, kind=socket.SOCK_STREAM):
-    """Ports that nobody holds at this moment."""
+def free_ports(count):
+    """Ports that nobody holds at this moment, neither for datagrams nor for connections."""
+    found = []
     with contextlib.ExitStack() as stack:
-        made = [stack.enter_context(socket.socket(socket.AF_INET, kind)) for _ in range(count)]
-        for each in made:
-            each.bind((HOST, 0))
-        return [each.getsockname()[1] for each in made]
+        while len(found) < count:
+            kinds = (socket.SOCK_STREAM, socket.SOCK_DGRAM)
+            stream, datagrams = (stack.enter_context(socket.socket(type=kind)) for kind in kinds)
+            stream.bind((HOST, 0))
+            with contextlib.suppress(OSError):
+                datagrams.bind(stream.getsockname())
+                found.append(stream.getsockname()[1])
+    return found
 
 
 class Daemon:
