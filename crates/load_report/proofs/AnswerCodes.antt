@@ -1,5 +1,5 @@
 -- The kind of an answer shows in its tag and its code.
-use Rattle.std.proofs.Common.{◌≡◌, ℕ, ◌+◌, ◌≤◌, ◌&&◌, ◌==◌, Bool, true, false, List, length, get_or, nat_lt, Some, None, refl, sym, ap, ◌∙◌, arith}
+use Rattle.std.proofs.Common.{◌≡◌, ℕ, ◌+◌, ◌≤◌, ◌&&◌, ◌==◌, Bool, true, List, length, get_or, nat_lt, Some, None, refl, ap, ◌∙◌, arith}
 use Rattle.std.proofs.lemmas.Bool.Decides.{nat_tests}
 use Rattle.replay_format.specs.declared.code.UnsentCause.TheVariants as causes
 use Rattle.replay_format.specs.Answers.{Answer, Opened, Set, Closed, Listed, Sent, Unsent, Left, answer_octets, sent_octets}

@@ -1,4 +1,4 @@
-use Rattle.std.proofs.Common.{◌≡◌, ◌+◌, ◌≤◌, sym, ap, ◌∙◌, arith}
+use Rattle.std.proofs.Common.{◌+◌, arith}
 use Rattle.replay_table.specs.Table.{empty_table}
 use Rattle.replay_table.specs.Outcomes.{after}
 use Rattle.load_gen.specs.Generator.{record_of}

@@ -1,4 +1,4 @@
-use Rattle.std.proofs.Common.{◌+◌, ◌*◌, ◌≤◌, ℕ}
+use Rattle.std.proofs.Common.{◌+◌, ◌*◌, ◌≤◌}
 use Rattle.replay_table.specs.Table.{Table}
 use Rattle.load_report.proofs.Going.{Going}
 use Rattle.load_report.proofs.replaying.answer_all.Given as goal

@@ -1,4 +1,4 @@
-use Rattle.std.proofs.Common.{◌≡◌, ℕ, ◌+◌, List, length, refl, ap, ◌∙◌}
+use Rattle.std.proofs.Common.{ℕ, ◌+◌, List, refl, ap, ◌∙◌}
 use Rattle.load_report.specs.Kinds.{one_if}
 use Rattle.load_report.proofs.AnswerCodes.{has_code, counted_by_codes}
 use Rattle.load_report.proofs.counting.Counts.count.Goals as goal
