@@ -1,10 +1,14 @@
 # SPDX-License-Identifier: Apache-2.0
 """Cases that a pair of files does not say: how octets arrive, and tables of many inputs."""
 
+import hashlib
+import hmac
 import os
 import pathlib
 import pty
+import re
 import select
+import socket
 import subprocess
 import sys
 import tempfile
@@ -1010,3 +1014,236 @@ def a_capture_of_ethernet_frames_and_one_of_pcapng_are_read(program):
         if found != [sent]:
             return f"{name}: {found}"
     return None
+
+
+# ---- a daemon on the loopback interface
+
+
+SECRET = bytes(range(32))
+
+DAEMON = """locals = ["127.0.0.1:{local}"]
+workers = 2
+operator = "127.0.0.1:{operator}"
+sessions = [
+  {{peer = "127.0.0.1:{plain}", ssid = 7, config = "edge"}},
+  {{peer = "127.0.0.1:{auth}", ssid = 8, mode = "auth", config = "secure"}},
+]
+[configs.edge]
+[configs.precise]
+format = "ptp"
+[configs.secure]
+key = "{key}"
+"""
+
+REPORT = (
+    rb"worker 0 taken (\d+) sent (\d+) nosession 0 short 0 badhmac (\d+) changed 0 noreply 0 sendfault 0 recvfault 0 end\n"
+    rb"worker 1 taken (\d+) sent (\d+) nosession 0 short 0 badhmac (\d+) changed 0 noreply 0 sendfault 0 recvfault 0 end\n"
+    rb"desk events \d+ faults 0 quit\nsessions live 2 closed 0 expired 0\n"
+)
+
+
+def mac(octets_covered):
+    return hmac.new(SECRET, octets_covered, hashlib.sha256).digest()[:16]
+
+
+def loopback(kind):
+    """A socket on a port that the system chooses."""
+    made = socket.socket(socket.AF_INET, kind)
+    made.bind(("127.0.0.1", 0))
+    made.settimeout(10)
+    return made
+
+
+def connection_to(port):
+    """A connection to a port at which the daemon is about to listen."""
+    until = time.monotonic() + 10
+    while True:
+        try:
+            return socket.create_connection(("127.0.0.1", port), timeout=10)
+        except ConnectionRefusedError:
+            if time.monotonic() > until:
+                raise
+            time.sleep(0.05)
+
+
+def asks(operator, line, wanted):
+    """What is wrong with the answer to an operator's line."""
+    operator.sendall(line + b"\n")
+    found = b""
+    while len(found) < len(wanted):
+        piece = operator.recv(4096)
+        if not piece:
+            break
+        found += piece
+    return None if found == wanted else f"{line!r}: {found!r} in place of {wanted!r}"
+
+
+def plain_exchange(sender, port, number, drawn, precise):
+    """What is wrong with the reply to a plain request of this number."""
+    sent = number.to_bytes(4, "big") + bytes.fromhex("0102030405060708 8001 0007") + bytes(28)
+    sender.sendto(sent, ("127.0.0.1", port))
+    reply = sender.recv(65536)
+    parts = (len(reply), reply[:4], reply[12] >> 6 & 1, reply[14:16], reply[24:38])
+    wanted = (44, drawn.to_bytes(4, "big"), int(precise), sent[14:16], sent[:14])
+    return None if parts == wanted else f"the reply to plain request {number}: {parts} in place of {wanted}"
+
+
+def authenticated_exchange(sender, port):
+    """What is wrong with the replies to a request whose HMAC is another, and to one that is as it should be."""
+    covered = (9).to_bytes(4, "big") + bytes(12) + bytes.fromhex("1112131415161718 8001 0008") + bytes(68)
+    sender.sendto(covered + bytes(16), ("127.0.0.1", port))
+    sender.sendto(covered + mac(covered), ("127.0.0.1", port))
+    reply = sender.recv(65536)
+    parts = (len(reply), reply[:4], reply[26:28], reply[48:52], reply[96:])
+    wanted = (112, bytes(4), covered[26:28], covered[:4], mac(reply[:96]))
+    return None if parts == wanted else f"the reply to the authenticated request: {parts} in place of {wanted}"
+
+
+def talks(operator, plain, auth, port):
+    """What is wrong with a whole talk with the daemon."""
+    ends_of = lambda sender: b"127.0.0.1:%d" % sender.getsockname()[1]
+    session = b"0 " + ends_of(plain) + b" plain 7"
+    listed = session + b" 1\n0 " + ends_of(auth) + b" auth 8 0\nok 2\n"
+    return (
+        plain_exchange(plain, port, 5, 0, False)
+        or asks(operator, b"list", listed)
+        or asks(operator, b"set " + session + b" precise", b"ok\n")
+        or plain_exchange(plain, port, 6, 1, True)
+        or asks(operator, b"count " + session, b"ok 2\n")
+        or authenticated_exchange(auth, port)
+        or asks(operator, b"quit", b"bye\n")
+    )
+
+
+@case
+def a_daemon_reflects_on_loopback_obeys_its_operator_and_reports(program):
+    with loopback(socket.SOCK_DGRAM) as plain, loopback(socket.SOCK_DGRAM) as auth, tempfile.TemporaryDirectory() as folder:
+        with loopback(socket.SOCK_DGRAM) as local, loopback(socket.SOCK_STREAM) as operator:
+            numbers = [made.getsockname()[1] for made in (local, operator, plain, auth)]
+        names = dict(zip(("local", "operator", "plain", "auth"), numbers))
+        file = pathlib.Path(folder) / "reflector.toml"
+        file.write_text(DAEMON.format(key=SECRET.hex(), **names))
+        process = start(program, ("run", file), stdin=subprocess.DEVNULL)
+        with connection_to(numbers[1]) as operator:
+            wrong = talks(operator, plain, auth, numbers[0])
+            if wrong:
+                process.kill()
+                return wrong
+        told = process.stdout.read()
+        counted = re.fullmatch(REPORT, told)
+        if not counted:
+            return f"the report: {told!r}"
+        taken, sent, bad = (int(counted[at]) + int(counted[at + 3]) for at in (1, 2, 3))
+        if (taken, sent, bad) != (4, 3, 1):
+            return f"{taken} taken, {sent} sent and {bad} with another HMAC"
+        return ends(process, 0)
+
+
+@case
+def a_daemon_whose_address_is_taken_says_so(program):
+    with loopback(socket.SOCK_DGRAM) as taken, tempfile.TemporaryDirectory() as folder:
+        file = pathlib.Path(folder) / "reflector.toml"
+        file.write_text(f'locals = ["127.0.0.1:{taken.getsockname()[1]}"]\n[configs.edge]\n')
+        ended = subprocess.run([program, "run", file], stdin=subprocess.DEVNULL, stdout=PIPE, timeout=SECONDS)
+        found = ended.stdout, ended.returncode
+        return None if found == (b"stampd: port failed\n", 9) else f"{found}"
+
+
+CONTROLLED = """locals = ["127.0.0.1:{local}"]
+workers = 2
+control = "127.0.0.1:{control}"
+operator = "127.0.0.1:{operator}"
+twamp = "edge"
+sessions = [{{peer = "127.0.0.1:{idle}", config = "edge", wait = 1}}]
+[configs.edge]
+[configs.precise]
+format = "ptp"
+"""
+
+CONTROLLED_REPORT = (
+    rb"worker 0 taken (\d+) sent \1 nosession 0 short 0 badhmac 0 changed 0 noreply 0 sendfault 0 recvfault 0 end\n"
+    rb"worker 1 taken (\d+) sent \2 nosession 0 short 0 badhmac 0 changed 0 noreply 0 sendfault 0 recvfault 0 end\n"
+    rb"desk events \d+ faults 0 quit\nsessions live 0 closed 1 expired 1\n"
+)
+
+
+def octets_from(connection, count):
+    """So many octets of a connection, or fewer where it ends."""
+    found = b""
+    while len(found) < count:
+        piece = connection.recv(count - len(found))
+        if not piece:
+            break
+        found += piece
+    return found
+
+
+def negotiates(client, sender, port):
+    """What is wrong with the talk of a client of TWAMP-Control that asks for one session and starts it."""
+    greeting = octets_from(client, 64)
+    client.sendall((97).to_bytes(4, "big") + bytes(160))
+    started = octets_from(client, 48)
+    ends_of = sender.getsockname()[1].to_bytes(2, "big") + port.to_bytes(2, "big")
+    client.sendall(bytes([5, 4]) + bytes(10) + ends_of + bytes(96))
+    accepted = octets_from(client, 48)
+    client.sendall(bytes([2]) + bytes(31))
+    answered = octets_from(client, 32)
+    found = len(greeting), greeting[12:16], len(started), started[15], accepted[:4], answered
+    wanted = 64, (97).to_bytes(4, "big"), 48, 0, bytes(2) + port.to_bytes(2, "big"), bytes(32)
+    return None if found == wanted else f"the talk: {found} in place of {wanted}"
+
+
+def reconfigured_under_traffic(operator, sender, port, count):
+    """What is wrong with the replies to so many requests, while the session changes its configuration again and again."""
+    session = b"0 127.0.0.1:%d twamp 0" % sender.getsockname()[1]
+    for number in range(count):
+        if number % 10 == 0:
+            operator.sendall(b"set " + session + (b" precise\n" if number % 20 == 0 else b" edge\n"))
+        sent = number.to_bytes(4, "big") + bytes.fromhex("0102030405060708 8001")
+        sender.sendto(sent, ("127.0.0.1", port))
+        reply = sender.recv(65536)
+        found, wanted = (len(reply), reply[:4], reply[24:38]), (41, sent[:4], sent)
+        if found != wanted:
+            return f"the reply to request {number}: {found} in place of {wanted}"
+    changes = b"ok\n" * (count // 10)
+    found = octets_from(operator, len(changes))
+    return None if found == changes else f"the answers to the changes: {found!r}"
+
+
+def comes_to(operator, line, wanted):
+    """What is wrong where a line isn't answered so within ten seconds."""
+    until = time.monotonic() + 10
+    while True:
+        operator.sendall(line + b"\n")
+        found = operator.recv(4096)
+        if found == wanted:
+            return None
+        if time.monotonic() > until:
+            return f"{line!r}: {found!r} in place of {wanted!r}"
+        time.sleep(0.2)
+
+
+@case
+def a_daemon_negotiates_a_session_changes_it_under_traffic_and_lets_another_expire(program):
+    with loopback(socket.SOCK_DGRAM) as sender, loopback(socket.SOCK_DGRAM) as idle, tempfile.TemporaryDirectory() as folder:
+        with loopback(socket.SOCK_DGRAM) as at, loopback(socket.SOCK_STREAM) as one, loopback(socket.SOCK_STREAM) as other:
+            port, talk, lines = (made.getsockname()[1] for made in (at, one, other))
+        file = pathlib.Path(folder) / "reflector.toml"
+        file.write_text(CONTROLLED.format(local=port, control=talk, operator=lines, idle=idle.getsockname()[1]))
+        process = start(program, ("run", file), stdin=subprocess.DEVNULL)
+        with connection_to(lines) as operator, connection_to(talk) as client:
+            wrong = (
+                negotiates(client, sender, port)
+                or reconfigured_under_traffic(operator, sender, port, 200)
+                or comes_to(operator, b"count 0 127.0.0.1:%d plain 0" % idle.getsockname()[1], b"refused no such\n")
+            )
+            client.sendall(bytes([3]) + bytes(6) + bytes([1]) + bytes(24))
+            wrong = wrong or comes_to(operator, b"list", b"ok 0\n") or asks(operator, b"quit", b"bye\n")
+            if wrong:
+                process.kill()
+                return wrong
+        told = process.stdout.read()
+        counted = re.fullmatch(CONTROLLED_REPORT, told)
+        if not counted or int(counted[1]) + int(counted[2]) != 200:
+            return f"the report: {told!r}"
+        return ends(process, 0)

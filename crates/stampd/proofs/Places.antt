@@ -37,10 +37,8 @@ two_elements (x ∷ []) v w some few e f = absurd (omega arith)
 two_elements (x ∷ y ∷ []) v w some few e f = rw (e, f) refl
 two_elements (x ∷ y ∷ z ∷ ws) v w some few e f = absurd (omega arith)
 
--- a list of three
-pub three_elements : {A : Type 0} (ws : List A) (u v w : A) → 3 ≤ length ws → length ws < 4 → u ≡ get_or ws 0 u → v ≡ get_or ws 1 v → w ≡ get_or ws 2 w → ws ≡ u ∷ v ∷ w ∷ []
-three_elements [] u v w some few e f g = absurd (omega arith)
-three_elements (x ∷ []) u v w some few e f g = absurd (omega arith)
-three_elements (x ∷ y ∷ []) u v w some few e f g = absurd (omega arith)
-three_elements (x ∷ y ∷ z ∷ []) u v w some few e f g = rw (e, f, g) refl
-three_elements (x ∷ y ∷ z ∷ a ∷ ws) u v w some few e f g = absurd (omega arith)
+pub first_of_two : (a b c d : List ℕ) → a ∷ b ∷ [] ≡ c ∷ d ∷ [] → a ≡ c
+first_of_two a b c d e = cc
+
+pub second_of_two : (a b c d : List ℕ) → a ∷ b ∷ [] ≡ c ∷ d ∷ [] → b ≡ d
+second_of_two a b c d e = cc

@@ -9,10 +9,18 @@ use Rattle.load_report.specs.Report.{count_limit, report}
 abbrev pub IsReplay : List (List ℕ) → Type 0
 IsReplay words = words ≡ codes "replay" ∷ []
 
--- check and the name of a file, which doesn't begin with a dash
-pub record IsCheck (name : List ℕ) (words : List (List ℕ)) : Type 0 where
-  pub list : words ≡ codes "check" ∷ name ∷ []
+-- this word and the name of a file, which doesn't begin with a dash
+pub record IsFileCommand (word name : List ℕ) (words : List (List ℕ)) : Type 0 where
+  pub list : words ≡ word ∷ name ∷ []
   pub undashed : starts_with nat_eq name (codes "-") ≡ false
+
+-- check and the name of a file
+abbrev pub IsCheck : List ℕ → List (List ℕ) → Type 0
+IsCheck name words = IsFileCommand (codes "check") name words
+
+-- run and the name of a file
+abbrev pub IsRun : List ℕ → List (List ℕ) → Type 0
+IsRun name words = IsFileCommand (codes "run") name words
 
 -- these texts are a seed, of at most ten digits, and a count of datagrams
 pub record AreNumbers (seed count : ℕ) (first second : List ℕ) : Type 0 where
@@ -21,11 +29,13 @@ pub record AreNumbers (seed count : ℕ) (first second : List ℕ) : Type 0 wher
   pub digits : seed < 10 ^ 10
   pub within : count ≤ count_limit
 
--- gen and these numbers
-abbrev pub IsGen : ℕ → ℕ → List (List ℕ) → Type 0
-IsGen seed count words = (first second : List ℕ) × (words ≡ codes "gen" ∷ first ∷ second ∷ []) × AreNumbers seed count first second
+-- gen, a seed and a count
+pub record IsGen (seed count : ℕ) (words : List (List ℕ)) : Type 0 where
+  pub list : words ≡ codes "gen" ∷ decimal seed ∷ decimal count ∷ []
+  pub digits : seed < 10 ^ 10
+  pub within : count ≤ count_limit
 
--- one of these
+-- one of the commands that wait for nobody
 abbrev pub IsCommand : List (List ℕ) → Type 0
 IsCommand words = IsReplay words ⊎ ((name : List ℕ) × IsCheck name words) ⊎ ((seed count : ℕ) × IsGen seed count words)
 
@@ -35,6 +45,10 @@ WasReported words written written' = (seed count : ℕ) × IsGen seed count word
 
 abbrev pub ReportWasCut : List (List ℕ) → Option (List ℕ) → Option (List ℕ) → Type 0
 ReportWasCut words written written' = (seed count : ℕ) × IsGen seed count words × AppendsFront written written' (report seed count)
+
+-- one of all commands
+abbrev pub IsAnyCommand : List (List ℕ) → Type 0
+IsAnyCommand words = IsCommand words ⊎ ((name : List ℕ) × IsRun name words)
 
 -- what is written where the words are no command
 abbrev pub usage : List ℕ

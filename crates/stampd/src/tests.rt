@@ -3,6 +3,8 @@
 ghost use Rattle.std.specs.Prelude.{None};
 
 use crate::offline::offline;
+use crate::top::stampd;
+use net_io::{PortItem, ScriptDesk, ScriptPort};
 use port_io::{Failed, MemFiles, MemSink, MemSource, Source};
 use std::alloc::{AllocError, Global};
 use std::test::Fail;
@@ -180,6 +182,65 @@ fn the_words_decide_what_is_done(rt: HostRuntime) -> Result<(), Fail> {
         let mut files = one_file(alloc, "reflector.toml", text)?;
         let words = words(alloc, texts)?;
         let got = offline(alloc, &words, &mut input, &mut out, &mut files);
+        assert_eq!(rt; got, status, "of {texts:?}");
+        assert_eq!(rt; out.written(), written, "of {texts:?}");
+    }
+    Ok(())
+}
+
+/// A port that gives nothing, and then its end.
+fn quiet_port(alloc: Global) -> Result<ScriptPort, Fail> {
+    let mut items = Vec::new(alloc);
+    items.push(PortItem::Nothing)?;
+    Ok(ScriptPort::make(
+        alloc,
+        items,
+        Vec::new(alloc),
+        Vec::new(alloc),
+        Vec::new(alloc),
+        Vec::new(alloc),
+        Vec::new(alloc),
+        100,
+        100,
+    )?)
+}
+
+#[test]
+fn run_serves_by_a_file_and_other_words_leave_the_ports_alone(
+    rt: HostRuntime,
+) -> Result<(), Fail> {
+    let alloc = rt.alloc();
+    let text = "locals = [\"192.0.2.10:862\"]\n[configs.edge]\n";
+    for (texts, status, written) in [
+        (
+            ["run", "reflector.toml"].as_slice(),
+            0,
+            b"worker 0 taken 0 sent 0 nosession 0 short 0 badhmac 0 changed 0 noreply 0 sendfault 0 recvfault 0 end\ndesk events 1 faults 0 end\nsessions live 0 closed 0 expired 0\n"
+                .as_slice(),
+        ),
+        (&["run"], 2, b"stampd: usage\n"),
+        (&["run", "-reflector.toml"], 2, b"stampd: usage\n"),
+        (&["run", "another.toml"], 5, b"stampd: file failed\n"),
+        (&["check", "reflector.toml"], 0, b"ok locals 1 configs 1 sessions 0\n"),
+    ] {
+        let mut input = MemSource::make(alloc, Vec::new(alloc), Vec::new(alloc))?;
+        let mut out = MemSink::make(alloc, 1000, Vec::new(alloc))?;
+        let mut files = one_file(alloc, "reflector.toml", text)?;
+        let mut ports = Vec::new(alloc);
+        ports.push(quiet_port(alloc)?)?;
+        let mut desk = ScriptDesk::make(
+            alloc,
+            Vec::new(alloc),
+            Vec::new(alloc),
+            Vec::new(alloc),
+            Vec::new(alloc),
+            100,
+            100,
+        )?;
+        let words = words(alloc, texts)?;
+        let got = stampd(
+            &rt, alloc, &words, &mut input, &mut out, &mut files, ports.as_mut_slice(), &mut desk,
+        );
         assert_eq!(rt; got, status, "of {texts:?}");
         assert_eq!(rt; out.written(), written, "of {texts:?}");
     }

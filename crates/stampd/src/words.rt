@@ -1,7 +1,7 @@
 //! The words of the command line.
 
 ghost use Rattle.std.specs.Prelude.{ℕ, ◌≡◌, List, IsTrue, MatchOption, map, string_bytes};
-ghost use Rattle.stampd.specs.Command.{IsReplay, IsCheck, IsGen, AreNumbers};
+ghost use Rattle.stampd.specs.Command.{IsReplay, IsCheck, IsRun, IsGen, AreNumbers, IsFileCommand};
 
 use load_report::COUNT_LIMIT;
 use text_forms::{law_number_texts, number_from};
@@ -20,13 +20,13 @@ pub fn is_replay(words: &[String]) -> bool
     }
 }
 
-/// The file of `check FILE`, where the words are that.
-pub fn file_to_check(words: &[String]) -> Option<&str>
-    ensures { MatchOption result ((name : List ℕ) → IsCheck name (map string_bytes words.now) → ⊥) (λ name. IsCheck name.now (map string_bytes words.now)) }
+/// The file behind a word, where the words are just these two.
+fn file_behind<'a>(word: &str, words: &'a [String]) -> Option<&'a str>
+    ensures { MatchOption result ((name : List ℕ) → IsFileCommand word.now name (map string_bytes words.now) → ⊥) (λ name. IsFileCommand word.now name.now (map string_bytes words.now)) }
 {
     match words {
-        [word, name] => {
-            if word.as_str() == "check" && !name.as_bytes().starts_with(b"-") {
+        [first, name] => {
+            if first.as_str() == word && !name.as_bytes().starts_with(b"-") {
                 Some(name)
             } else {
                 None
@@ -34,6 +34,20 @@ pub fn file_to_check(words: &[String]) -> Option<&str>
         }
         _ => None,
     }
+}
+
+/// The file of `check FILE`, where the words are that.
+pub fn file_to_check(words: &[String]) -> Option<&str>
+    ensures { MatchOption result ((name : List ℕ) → IsCheck name (map string_bytes words.now) → ⊥) (λ name. IsCheck name.now (map string_bytes words.now)) }
+{
+    file_behind("check", words)
+}
+
+/// The file of `run FILE`, where the words are that.
+pub fn file_to_run(words: &[String]) -> Option<&str>
+    ensures { MatchOption result ((name : List ℕ) → IsRun name (map string_bytes words.now) → ⊥) (λ name. IsRun name.now (map string_bytes words.now)) }
+{
+    file_behind("run", words)
 }
 
 /// The seed and the count that two words are, where they are that.
@@ -55,8 +69,7 @@ pub fn load_to_report(words: &[String]) -> Option<(u64, u32)>
             if word.as_str() != "gen" {
                 return None;
             }
-            let (seed, count) = seed_and_count(first.as_bytes(), second.as_bytes())?;
-            Some((seed, count))
+            seed_and_count(first.as_bytes(), second.as_bytes())
         }
         _ => None,
     }

@@ -1,0 +1,111 @@
+-- What shows why a run ended as it did: a port's count of failures has risen, the desk's has, or a budget was spent.
+use Rattle.std.proofs.Common.{◌≡◌, ◌⊎◌, ℕ, Bool, true, false, List, [], ◌∷◌, Option, inl, inr, refl, sym, subst, ◌∙◌, arith}
+use Rattle.std.specs.List.{list_any}
+use Rattle.session_world.specs.Desk.{config_at}
+use Rattle.session_desk.specs.Book.{steps_of}
+use Rattle.net_io.specs.Port.{read}
+use Rattle.conf_text.specs.File.{File}
+use Rattle.control_desk.specs.declared.counts.DeskEnd.{DeskEnd}
+use Rattle.control_desk.specs.declared.counts.DeskEnd.TheVariants as desk
+use Rattle.reflector_serve.specs.Ports.{PortView}
+use Rattle.reflector_serve.specs.declared.report.Report.{Report}
+use Rattle.reflector_serve.specs.Served.{DeskView, Served}
+use Rattle.file_service.specs.declared.ends.RunEnd.{RunEnd}
+use Rattle.file_service.specs.declared.ends.RunEnd.TheVariants.{Done, PortFailed, DeskFailed, BudgetSpent}
+use Rattle.file_service.specs.Ends.{is_port_fault, is_spent, end_by, run_end, TellsEnd, NoneSpent}
+use Rattle.file_service.specs.Service.{HasRisen, OneHasFailed, WritesReport, HasServed, HasClosedDesk, NothingFails}
+use Rattle.file_service.proofs.PortFaults.{port_failed, risen}
+use Rattle.file_service.proofs.DeskFaults.{desk_failed}
+
+-- ---- which end a status tells
+
+told_port : (k : RunEnd) (written written' : Option (List ℕ)) (faults faults' : ℕ) → TellsEnd k 9 written written' faults faults' → k ≡ PortFailed
+told_port Done written written' faults faults' h = let e = h.0 in absurd (omega (arith, e))
+told_port PortFailed written written' faults faults' h = refl
+told_port DeskFailed written written' faults faults' h = let e = h.0 in absurd (omega (arith, e))
+told_port BudgetSpent written written' faults faults' h = let e = h.0 in absurd (omega (arith, e))
+
+told_desk : (k : RunEnd) (written written' : Option (List ℕ)) (faults faults' : ℕ) → TellsEnd k 10 written written' faults faults' → k ≡ DeskFailed
+told_desk Done written written' faults faults' h = let e = h.0 in absurd (omega (arith, e))
+told_desk PortFailed written written' faults faults' h = let e = h.0 in absurd (omega (arith, e))
+told_desk DeskFailed written written' faults faults' h = refl
+told_desk BudgetSpent written written' faults faults' h = let e = h.0 in absurd (omega (arith, e))
+
+-- ---- what an end comes from
+
+by_port : (d : DeskEnd) (failed spent : Bool) → end_by d failed spent ≡ PortFailed → failed ≡ true
+by_port desk.Fault failed spent h = absurd cc
+by_port desk.Budget true spent h = refl
+by_port desk.Budget false spent h = absurd cc
+by_port desk.End true spent h = refl
+by_port desk.End false true h = absurd cc
+by_port desk.End false false h = absurd cc
+by_port desk.Quit true spent h = refl
+by_port desk.Quit false true h = absurd cc
+by_port desk.Quit false false h = absurd cc
+
+by_desk : (d : DeskEnd) (failed spent : Bool) → end_by d failed spent ≡ DeskFailed → d ≡ desk.Fault
+by_desk desk.Fault failed spent h = refl
+by_desk desk.Budget true spent h = absurd cc
+by_desk desk.Budget false spent h = absurd cc
+by_desk desk.End true spent h = absurd cc
+by_desk desk.End false true h = absurd cc
+by_desk desk.End false false h = absurd cc
+by_desk desk.Quit true spent h = absurd cc
+by_desk desk.Quit false true h = absurd cc
+by_desk desk.Quit false false h = absurd cc
+
+by_budget : (d : DeskEnd) (failed spent : Bool) → (d ≡ desk.Budget → ⊥) → spent ≡ false → end_by d failed spent ≡ BudgetSpent → ⊥
+by_budget desk.Fault failed spent n s h = cc
+by_budget desk.Budget failed spent n s h = n refl
+by_budget desk.End true spent n s h = cc
+by_budget desk.End false true n s h = cc
+by_budget desk.End false false n s h = cc
+by_budget desk.Quit true spent n s h = cc
+by_budget desk.Quit false true n s h = cc
+by_budget desk.Quit false false n s h = cc
+
+-- ---- a run
+
+module _ {P S D T : Type 0} (v : PortView P S) (w : DeskView D T) (f : File) (ps qs : List P) (d e : D) where
+  port_end : (r : Report) → Served v w f ps qs d e r → run_end r ≡ PortFailed → OneHasFailed v ps qs
+  port_end r s end =
+      let failed = by_port r.desk.end (list_any (λ t. is_port_fault t.end) r.workers.items) (list_any (λ t. is_spent t.end) r.workers.items) end in
+      port_failed v s.table f (config_at (steps_of s.joined)) (read s.moment ∷ []) ps qs s.lists r.workers.items s.ports failed
+
+  desk_end : (r : Report) → Served v w f ps qs d e r → run_end r ≡ DeskFailed → HasRisen (w.faults d) (w.faults e)
+  desk_end r s end =
+      let fault = by_desk r.desk.end (list_any (λ t. is_port_fault t.end) r.workers.items) (list_any (λ t. is_spent t.end) r.workers.items) end in
+      omega (arith, desk_failed w s.table f d e s.at_split s.at_end r.desk s.desk fault)
+
+  budget_end : (r : Report) → NoneSpent r → run_end r ≡ BudgetSpent → ⊥
+  budget_end r n end = by_budget r.desk.end (list_any (λ t. is_port_fault t.end) r.workers.items) (list_any (λ t. is_spent t.end) r.workers.items) n.calls n.workers end
+
+  module _ (written written' : Option (List ℕ)) (faults faults' : ℕ) where
+    -- where a run ended with 9, a port's count of failures has risen
+    pub run_failed : HasServed v w f ps qs d e 9 written written' faults faults' → OneHasFailed v ps qs
+    run_failed h = port_end h.0 h.1 (told_port (run_end h.0) h.2.reported written' faults faults' h.2.end)
+
+    -- where it ended with 10, the desk's has
+    pub desk_run_failed : HasServed v w f ps qs d e 10 written written' faults faults' → HasRisen (w.faults d) (w.faults e)
+    desk_run_failed h = desk_end h.0 h.1 (told_desk (run_end h.0) h.2.reported written' faults faults' h.2.end)
+
+    pub desk_opening_failed : HasClosedDesk v w ps qs d e written written' faults faults' → HasRisen (w.faults d) (w.faults e)
+    desk_opening_failed h = risen (w.faults d) (w.faults e) h.desk.faults
+
+    -- where nothing failed and no budget was spent, a report ends with 0
+    pub none_failed : (r : Report) (status : ℕ) → Served v w f ps qs d e r → WritesReport r status written written' faults faults' → NothingFails v w f ps qs d e faults faults' → status ≡ 0
+    none_failed r status s h none = by (run_end r) refl h.end
+      where
+        by : (k : RunEnd) → run_end r ≡ k → TellsEnd k status h.reported written' faults faults' → status ≡ 0
+        by Done end told = told.0
+        by PortFailed end told = absurd (none.ports (port_end r s end))
+        by DeskFailed end told = absurd (none.desk_calls (desk_end r s end))
+        by BudgetSpent end told = absurd (budget_end r (none.budgets r s) end)
+
+    -- a report that was written with a status of its end
+    pub served_with : (r : Report) (n status : ℕ) → status ≡ n → (n ≡ 4 → ⊥) → (n ≡ 8 → ⊥) → Served v w f ps qs d e r
+        → (status ≡ 4) ⊎ (status ≡ 8) ⊎ WritesReport r status written written' faults faults' → HasServed v w f ps qs d e n written written' faults faults'
+    served_with r n status same four eight s (inl h) = absurd (four (sym same ∙ h))
+    served_with r n status same four eight s (inr (inl h)) = absurd (eight (sym same ∙ h))
+    served_with r n status same four eight s (inr (inr h)) = (r, s, subst (λ (x : ℕ). WritesReport r x written written' faults faults') same h)

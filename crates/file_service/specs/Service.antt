@@ -1,0 +1,72 @@
+-- What serving by a file comes to: what was served, and what was written (this project's own).
+use Rattle.std.specs.Prelude.{◌≡◌, ℕ, ◌<◌, ◌≤◌, List, length, slice_index_or, Option, codes}
+use Rattle.std.specs.Io.KnownBytes.{Appends}
+use Rattle.port_io.specs.Outside.{counted, Rises, AppendsFront}
+use Rattle.port_io.specs.Files as port
+use Rattle.conf_text.specs.Faults.{Limit}
+use Rattle.conf_text.specs.File.{File}
+use Rattle.conf_check.specs.Lines.{fault_line}
+use Rattle.conf_check.specs.Loading.{IsAccepted}
+use Rattle.conf_check.specs.Writing.{WritesLine}
+use Rattle.reflector_serve.specs.Ports.{PortView, OneFails}
+use Rattle.reflector_serve.specs.Served.{DeskView, AreQuiet, HasNotOpened, Served}
+use Rattle.reflector_serve.specs.declared.report.Report.{Report}
+use Rattle.file_service.specs.Ends.{run_end, NoneSpent, report_text, port_line, desk_line, TellsEnd}
+
+-- a count of failures has risen, or stands at its last value or behind it
+abbrev pub HasRisen : ℕ → ℕ → Type 0
+HasRisen old new = counted old ≤ new
+
+-- a port's count of failures has risen
+pub record OneHasFailed {P S : Type 0} (v : PortView P S) (ps qs : List P) : Type 0 where
+  pub place : ℕ
+  pub inside : place < length ps
+  pub risen : (d : P) → HasRisen (v.faults (slice_index_or ps place d)) (v.faults (slice_index_or qs place d))
+
+-- the report was written whole, and then its end was told, with this status
+pub record WritesReport (report : Report) (status : ℕ) (written written' : Option (List ℕ)) (faults faults' : ℕ) : Type 0 where
+  pub reported : Option (List ℕ)
+  pub whole : Appends written reported (report_text report)
+  pub end : TellsEnd (run_end report) status reported written' faults faults'
+
+-- 0, 9, 10, 11: the reflector served by a file, and the report was written, with the status and the line of its end
+abbrev pub HasServed : {P S D T : Type 0} → PortView P S → DeskView D T → File → List P → List P → D → D → ℕ → Option (List ℕ) → Option (List ℕ) → ℕ → ℕ → Type 0
+HasServed v w f ps qs d e status written written' faults faults' =
+    (report : Report) × Served v w f ps qs d e report × WritesReport report status written written' faults faults'
+
+-- 8: the reflector served by a file, and a front of the report was written, since a write failed
+abbrev pub HasLostReport : {P S D T : Type 0} → PortView P S → DeskView D T → File → List P → List P → D → D → Option (List ℕ) → Option (List ℕ) → ℕ → ℕ → Type 0
+HasLostReport v w f ps qs d e written written' faults faults' =
+    (report : Report) × Served v w f ps qs d e report × AppendsFront written written' (report_text report) × Rises faults faults'
+
+-- 4: the reflector served by a file, and there was no memory for the report
+abbrev pub HasNoReport : {P S D T : Type 0} → PortView P S → DeskView D T → File → List P → List P → D → D → Type 0
+HasNoReport v w f ps qs d e = (report : Report) × Served v w f ps qs d e report
+
+-- 9: a port failed to open, which was told; nothing was received or sent
+pub record HasClosedPort {P S D : Type 0} (v : PortView P S) (ps qs : List P) (d e : D) (written written' : Option (List ℕ)) (faults faults' : ℕ) : Type 0 where
+  pub quiet : AreQuiet v ps qs
+  pub fails : OneFails v.faults ps qs
+  pub desk : e ≡ d
+  pub told : WritesLine port_line written written' faults faults'
+
+-- 10: the desk failed to open, which was told; nothing was received or sent
+pub record HasClosedDesk {P S D T : Type 0} (v : PortView P S) (w : DeskView D T) (ps qs : List P) (d e : D) (written written' : Option (List ℕ)) (faults faults' : ℕ) : Type 0 where
+  pub quiet : AreQuiet v ps qs
+  pub desk : HasNotOpened w d e
+  pub told : WritesLine desk_line written written' faults faults'
+
+-- 3: there are fewer ports than the file has workers, which is told
+abbrev pub HasTooFewPorts : File → ℕ → Option (List ℕ) → Option (List ℕ) → ℕ → ℕ → Type 0
+HasTooFewPorts f count written written' faults faults' = (count < f.workers) × WritesLine (fault_line (Limit (codes "workers"))) written written' faults faults'
+
+-- no write, no port and no call of the desk failed, and whatever report tells of such a run, no budget was spent in it
+pub record NothingFails {P S D T : Type 0} (v : PortView P S) (w : DeskView D T) (f : File) (ps qs : List P) (d e : D) (faults faults' : ℕ) : Type 0 where
+  pub writes : Rises faults faults' → ⊥
+  pub ports : OneHasFailed v ps qs → ⊥
+  pub desk_calls : HasRisen (w.faults d) (w.faults e) → ⊥
+  pub budgets : (report : Report) → Served v w f ps qs d e report → NoneSpent report
+
+-- the content of the name was accepted, with no more workers than ports, and this is so of its file
+abbrev pub OfFile : {P : Type 0} → Option (List port.File) → List ℕ → List P → (File → Type 0) → Type 0
+OfFile files name ps R = (f : File) × IsAccepted files name f × (f.workers ≤ length ps) × R f
