@@ -8,13 +8,16 @@ use net_io::{DeskEvent, DeskItem, PortItem, ScriptDesk, ScriptPort};
 use port_io::{MemFiles, MemSink};
 use refl_types::{Address, Endpoint, Meta};
 use std::alloc::{AllocError, Global};
+use std::process::Abort;
 use std::test::Fail;
+use std::thread::Threads;
 
 const NAME: &str = "reflector.toml";
 
 const SERVED: &str = "locals = [\"192.0.2.10:862\"]\nworkers = 1\nturns = 70\n[configs.edge]\n";
 
 /// What goes wrong in a run, and what comes of it. The first so many calls fail, and of writes the one of this number.
+#[derive(Clone, Copy)]
 struct Case {
     text: &'static str,
     opens: u64,
@@ -74,8 +77,7 @@ fn port(alloc: Global, opens: u64, receives: u64) -> Result<ScriptPort, Fail> {
     )?)
 }
 
-fn is_answered(rt: HostRuntime, case: &Case) -> Result<(), Fail> {
-    let alloc = rt.alloc();
+fn is_answered<R: Threads + Abort + Sync>(rt: &R, alloc: Global, case: &Case) -> Result<(), Fail> {
     let mut files = one_file(alloc, case.text)?;
     let mut failing = Vec::new(alloc);
     failing.push(case.write)?;
@@ -92,7 +94,7 @@ fn is_answered(rt: HostRuntime, case: &Case) -> Result<(), Fail> {
         100,
     )?;
     let status = run_file(
-        &rt,
+        rt,
         alloc,
         NAME,
         &mut files,
@@ -107,13 +109,14 @@ fn is_answered(rt: HostRuntime, case: &Case) -> Result<(), Fail> {
 
 #[test]
 fn a_run_in_which_nothing_fails_ends_with_0_and_its_report(rt: HostRuntime) -> Result<(), Fail> {
-    is_answered(rt, &WELL)
+    is_answered(&rt, rt.alloc(), &WELL)
 }
 
 #[test]
 fn a_spent_budget_is_told_behind_the_report(rt: HostRuntime) -> Result<(), Fail> {
     is_answered(
-        rt,
+        &rt,
+        rt.alloc(),
         &Case {
             text: "locals = [\"192.0.2.10:862\"]\nworkers = 1\nturns = 3\n[configs.edge]\n",
             status: 11,
@@ -128,7 +131,8 @@ fn sixty_four_receives_that_fail_in_a_row_end_a_run_and_63_do_not(
     rt: HostRuntime,
 ) -> Result<(), Fail> {
     is_answered(
-        rt,
+        &rt,
+        rt.alloc(),
         &Case {
             receives: 64,
             status: 9,
@@ -137,7 +141,8 @@ fn sixty_four_receives_that_fail_in_a_row_end_a_run_and_63_do_not(
         },
     )?;
     is_answered(
-        rt,
+        &rt,
+        rt.alloc(),
         &Case {
             receives: 63,
             written: b"worker 0 taken 0 sent 0 nosession 0 short 0 badhmac 0 changed 0 noreply 0 sendfault 0 recvfault 63 end\ndesk events 1 faults 0 end\nsessions live 0 closed 0 expired 0\n",
@@ -151,7 +156,8 @@ fn sixty_four_failures_of_the_desk_in_a_row_are_told_before_a_port_and_63_are_no
     rt: HostRuntime,
 ) -> Result<(), Fail> {
     is_answered(
-        rt,
+        &rt,
+        rt.alloc(),
         &Case {
             nexts: 64,
             receives: 64,
@@ -161,7 +167,8 @@ fn sixty_four_failures_of_the_desk_in_a_row_are_told_before_a_port_and_63_are_no
         },
     )?;
     is_answered(
-        rt,
+        &rt,
+        rt.alloc(),
         &Case {
             nexts: 63,
             written: b"worker 0 taken 0 sent 0 nosession 0 short 0 badhmac 0 changed 0 noreply 0 sendfault 0 recvfault 0 end\ndesk events 1 faults 63 end\nsessions live 0 closed 0 expired 0\n",
@@ -184,8 +191,8 @@ fn what_fails_to_open_is_told_without_a_report(rt: HostRuntime) -> Result<(), Fa
         written: b"stampd: desk failed\n",
         ..WELL
     };
-    is_answered(rt, &closed_port)?;
-    is_answered(rt, &closed_desk)
+    is_answered(&rt, rt.alloc(), &closed_port)?;
+    is_answered(&rt, rt.alloc(), &closed_desk)
 }
 
 #[test]
@@ -202,14 +209,15 @@ fn a_file_with_a_fault_or_too_many_workers_serves_nothing(rt: HostRuntime) -> Re
         written: b"stampd: configuration: limit workers\n",
         ..WELL
     };
-    is_answered(rt, &empty)?;
-    is_answered(rt, &crowded)
+    is_answered(&rt, rt.alloc(), &empty)?;
+    is_answered(&rt, rt.alloc(), &crowded)
 }
 
 #[test]
 fn a_report_that_cannot_be_written_ends_with_8(rt: HostRuntime) -> Result<(), Fail> {
     is_answered(
-        rt,
+        &rt,
+        rt.alloc(),
         &Case {
             write: 1,
             status: 8,

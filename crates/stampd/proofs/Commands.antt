@@ -1,5 +1,5 @@
 -- No words are two commands.
-use Rattle.std.proofs.Common.{◌≡◌, ℕ, List, [], ◌∷◌, length, codes, sym, ap, ◌∙◌, arith}
+use Rattle.std.proofs.Common.{◌≡◌, ℕ, List, [], ◌∷◌, length, sym, ap, ◌∙◌, arith}
 use Rattle.stampd.specs.Command.{IsReplay, IsCheck, IsRun, IsGen}
 
 abbrev first_length : List (List ℕ) → ℕ

@@ -21,7 +21,11 @@ use top::stampd;
 const PORTS: usize = 64;
 
 /// The ports, of which each may have a worker.
-fn make_ports(rt: HostRuntime, alloc: Global, ends: &Ends) -> Result<Vec<UdpPort<HostRuntime>>, Memory> {
+fn make_ports(
+    rt: HostRuntime,
+    alloc: Global,
+    ends: &Ends,
+) -> Result<Vec<UdpPort<HostRuntime>>, Memory> {
     let Ok(mut ports) = Vec::with_capacity(alloc, PORTS) else {
         return Err(Memory);
     };

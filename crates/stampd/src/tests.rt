@@ -206,22 +206,23 @@ fn quiet_port(alloc: Global) -> Result<ScriptPort, Fail> {
 }
 
 #[test]
-fn run_serves_by_a_file_and_other_words_leave_the_ports_alone(
-    rt: HostRuntime,
-) -> Result<(), Fail> {
+fn run_serves_by_a_file_and_other_words_leave_the_ports_alone(rt: HostRuntime) -> Result<(), Fail> {
     let alloc = rt.alloc();
     let text = "locals = [\"192.0.2.10:862\"]\n[configs.edge]\n";
     for (texts, status, written) in [
         (
             ["run", "reflector.toml"].as_slice(),
             0,
-            b"worker 0 taken 0 sent 0 nosession 0 short 0 badhmac 0 changed 0 noreply 0 sendfault 0 recvfault 0 end\ndesk events 1 faults 0 end\nsessions live 0 closed 0 expired 0\n"
-                .as_slice(),
+            b"worker 0 taken 0 sent 0 nosession 0 short 0 badhmac 0 changed 0 noreply 0 sendfault 0 recvfault 0 end\ndesk events 1 faults 0 end\nsessions live 0 closed 0 expired 0\n".as_slice(),
         ),
         (&["run"], 2, b"stampd: usage\n"),
         (&["run", "-reflector.toml"], 2, b"stampd: usage\n"),
         (&["run", "another.toml"], 5, b"stampd: file failed\n"),
-        (&["check", "reflector.toml"], 0, b"ok locals 1 configs 1 sessions 0\n"),
+        (
+            &["check", "reflector.toml"],
+            0,
+            b"ok locals 1 configs 1 sessions 0\n",
+        ),
     ] {
         let mut input = MemSource::make(alloc, Vec::new(alloc), Vec::new(alloc))?;
         let mut out = MemSink::make(alloc, 1000, Vec::new(alloc))?;
@@ -239,7 +240,14 @@ fn run_serves_by_a_file_and_other_words_leave_the_ports_alone(
         )?;
         let words = words(alloc, texts)?;
         let got = stampd(
-            &rt, alloc, &words, &mut input, &mut out, &mut files, ports.as_mut_slice(), &mut desk,
+            &rt,
+            alloc,
+            &words,
+            &mut input,
+            &mut out,
+            &mut files,
+            ports.as_mut_slice(),
+            &mut desk,
         );
         assert_eq!(rt; got, status, "of {texts:?}");
         assert_eq!(rt; out.written(), written, "of {texts:?}");

@@ -23,11 +23,12 @@ returns-else-eq c = λ name command.
     let word = first_of_two _ _ _ _ words in
     let file = second_of_two _ _ _ _ words in
     elim c.else-eq.branch as (λ _. ⊥) [
-      else-eq-via-then-eq+else-not-starts_with w ↦
-        let dashed = ap (λ (l : List ℕ). starts_with nat_eq l (codes "-")) (sym w.as_bytes.ensures.value) ∙ sym w.starts_with.ensures.value ∙ w.if-not-starts_with.false in
-        let both : true ≡ false = sym dashed ∙ ap (λ (l : List ℕ). starts_with nat_eq l (codes "-")) file ∙ command.undashed in
-        cc
-    | else-eq-via-else-eq w ↦
-        let same = (slice_eq-Decides Decides-eqb _ _ c.eq.result c.eq.ensures).1 (c.as_str.ensures.value ∙ word) in
-        let both : true ≡ false = sym same ∙ w.if-eq.false in
-        cc ]
+      | else-eq-via-then-eq+else-not-starts_with w ↦
+          let dashed = ap (λ (l : List ℕ). starts_with nat_eq l (codes "-")) (sym w.as_bytes.ensures.value) ∙ sym w.starts_with.ensures.value ∙ w.if-not-starts_with.false in
+          let both : true ≡ false = sym dashed ∙ ap (λ (l : List ℕ). starts_with nat_eq l (codes "-")) file ∙ command.undashed in
+          cc
+      | else-eq-via-else-eq w ↦
+          let same = (slice_eq-Decides Decides-eqb _ _ c.eq.result c.eq.ensures).1 (c.as_str.ensures.value ∙ word) in
+          let both : true ≡ false = sym same ∙ w.if-eq.false in
+          cc
+    ]
