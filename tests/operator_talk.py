@@ -85,6 +85,8 @@ def difference(program, pieces):
                 if found != wanted:
                     return f"{found!r} in place of {wanted!r}"
             return end_of(process, desk) if desk.ended else None
+        except (OSError, subprocess.TimeoutExpired) as fault:
+            return f"{type(fault).__name__}: {fault}"
         finally:
             process.kill()
             process.communicate()
