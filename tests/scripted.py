@@ -16,6 +16,7 @@ import threading
 import time
 import tty
 
+import load_model
 from hex_text import octets
 from records import *
 
@@ -137,6 +138,71 @@ def words_that_begin_with_a_dash_give_the_usage(program):
 def other_spellings_give_the_usage(program):
     for words in ([""], ["Replay"], ["replay "], ["repla"], ["replays"], ["gen"]):
         if wrong := usage(program, words):
+            return f"{words}: {wrong}"
+    return None
+
+
+# ---- generated loads
+
+
+def gen(program, seed, count):
+    words = [program, "gen", str(seed), str(count)]
+    ended = subprocess.run(words, stdin=subprocess.DEVNULL, capture_output=True, timeout=SECONDS)
+    return ended.stdout, ended.returncode
+
+
+@case
+def a_load_of_one_datagram_and_of_none_are_told(program):
+    for count, told in (
+        (1, b"datagrams 1\nsent 1\nnosession 0\noctets 186\n"),
+        (0, b"datagrams 0\nsent 0\nnosession 0\noctets 48\n"),
+    ):
+        if (found := gen(program, 0, count)) != (told, 0):
+            return f"{count}: {found}"
+    return None
+
+
+@case
+def a_load_is_told_as_the_model_tells_it(program):
+    for seed, count in ((0, 7), (1, 1000), (20261201, 1000), (2**32, 500), (9_999_999_999, 500)):
+        if (found := gen(program, seed, count)) != (load_model.report(seed, count), 0):
+            return f"{seed} {count}: {found} in place of {load_model.report(seed, count)}"
+    return None
+
+
+@case
+def a_load_is_told_as_its_stream_is_answered(program):
+    answers, status = replay(program, load_model.stream(7, 2000))
+    told, _ = gen(program, 7, 2000)
+    octets_told = int(told.split()[-1])
+    if status or octets_told != len(answers):
+        return f"status {status}, {octets_told} octets told in place of {len(answers)}"
+    return None
+
+
+@case
+def a_load_of_200000_datagrams_is_told_twice_alike(program):
+    first, status = gen(program, 7, 200_000)
+    numbers = [int(number) for number in first.split()[1::2]]
+    if status or numbers[0] != 200_000 or numbers[1] + numbers[2] != 200_000:
+        return f"status {status}, {first}"
+    return differs("a second run", gen(program, 7, 200_000)[0], first)
+
+
+@case
+def the_longest_load_has_a_million_datagrams(program):
+    told, status = gen(program, 0, 1_000_000)
+    return None if told.startswith(b"datagrams 1000000\n") and status == 0 else f"status {status}, {told}"
+
+
+@case
+def wrong_numbers_of_a_load_give_the_usage(program):
+    for words in (
+        [], ["0"], ["0", "1", ""], ["0", "1000001"], ["0", "10000000000"], ["10000000000", "1"], ["00", "1"], ["0", "01"],
+        ["", "1"], ["0", ""], ["-1", "1"], ["+1", "1"], ["1", "-0"], ["0x1", "1"], [" 1", "1"], ["1", "1 "], ["1", "1.0"],
+        ["18446744073709551616", "1"], ["\u0661", "1"],
+    ):
+        if wrong := usage(program, ["gen", *words]):
             return f"{words}: {wrong}"
     return None
 

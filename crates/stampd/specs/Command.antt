@@ -1,6 +1,9 @@
 -- The words of the command line (this project's own).
-use Rattle.std.specs.Prelude.{ℕ, ◌≡◌, ◌⊎◌, nat_eq, false, List, [], ◌∷◌, ◌++◌, codes}
+use Rattle.std.specs.Prelude.{ℕ, ◌≡◌, ◌⊎◌, ◌<◌, ◌≤◌, ◌^◌, nat_eq, false, List, [], ◌∷◌, ◌++◌, Option, codes, decimal}
 use Rattle.std.specs.List.{starts_with}
+use Rattle.std.specs.Io.KnownBytes.{Appends}
+use Rattle.port_io.specs.Outside.{AppendsFront}
+use Rattle.load_report.specs.Report.{count_limit, report}
 
 -- replay, and no other word
 abbrev pub IsReplay : List (List ℕ) → Type 0
@@ -19,9 +22,29 @@ IsCheck name words = IsFileCommand (codes "check") name words
 abbrev pub IsRun : List ℕ → List (List ℕ) → Type 0
 IsRun name words = IsFileCommand (codes "run") name words
 
+-- these texts are a seed, of at most ten digits, and a count of datagrams
+pub record AreNumbers (seed count : ℕ) (first second : List ℕ) : Type 0 where
+  pub seed_text : first ≡ decimal seed
+  pub count_text : second ≡ decimal count
+  pub digits : seed < 10 ^ 10
+  pub within : count ≤ count_limit
+
+-- gen, a seed and a count
+pub record IsGen (seed count : ℕ) (words : List (List ℕ)) : Type 0 where
+  pub list : words ≡ codes "gen" ∷ decimal seed ∷ decimal count ∷ []
+  pub digits : seed < 10 ^ 10
+  pub within : count ≤ count_limit
+
 -- one of the commands that wait for nobody
 abbrev pub IsCommand : List (List ℕ) → Type 0
-IsCommand words = IsReplay words ⊎ ((name : List ℕ) × IsCheck name words)
+IsCommand words = IsReplay words ⊎ ((name : List ℕ) × IsCheck name words) ⊎ ((seed count : ℕ) × IsGen seed count words)
+
+-- gen, and just the lines of that load were written, or a front of them
+abbrev pub WasReported : List (List ℕ) → Option (List ℕ) → Option (List ℕ) → Type 0
+WasReported words written written' = (seed count : ℕ) × IsGen seed count words × Appends written written' (report seed count)
+
+abbrev pub ReportWasCut : List (List ℕ) → Option (List ℕ) → Option (List ℕ) → Type 0
+ReportWasCut words written written' = (seed count : ℕ) × IsGen seed count words × AppendsFront written written' (report seed count)
 
 -- one of all commands
 abbrev pub IsAnyCommand : List (List ℕ) → Type 0

@@ -10,13 +10,14 @@ ghost use Rattle.port_io.specs.Files as port;
 ghost use Rattle.port_io.specs.Files.{content};
 ghost use Rattle.conf_check.specs.Writing.{WritesLine};
 ghost use Rattle.conf_check.specs.Checking.{WasAccepted, WasCutShort, WasFaulty, WasNotLoaded, content_status};
-ghost use Rattle.stampd.specs.Command.{IsReplay, IsCheck, IsCommand, usage};
+ghost use Rattle.stampd.specs.Command.{IsReplay, IsCheck, IsGen, IsCommand, WasReported, ReportWasCut, usage};
 ghost use Rattle.stampd.specs.Replay.{IsStream, IsNoStream, IsDone, HasLeft, WasCutOff, WasStopped, IsUntouched};
 
 use crate::outbox::{Outbox, Taken};
 use crate::read_ahead::ReadAhead;
-use crate::words::{file_to_check, is_replay};
+use crate::words::{file_to_check, is_replay, load_to_report};
 use conf_check::{check_file, write_line};
+use load_report::report_load;
 use port_io::{Files, Sink, Source};
 use shared_replay::Sessions;
 use std::alloc::Global;
@@ -119,8 +120,8 @@ const USAGE: &[u8] = b"stampd: usage\n";
 ///
 /// `replay` answers the records of the input: 0 where all were answered, 6 where the input left its grammar, 7 where a read
 /// failed. `check FILE` says what a configuration file has: 0 where it is accepted, 3 where its text has a fault, 5 where it
-/// wasn't loaded. Both end with 4 for want of memory and with 8 where a write failed. Other words are no command, for which
-/// the status is 2.
+/// wasn't loaded. `gen SEED COUNT` replays a generated load in memory and writes four lines of it: 0. Each ends with 4 for
+/// want of memory and with 8 where a write failed. Other words are no command, for which the status is 2.
 pub fn offline<S: Source, K: Sink, F: Files>(
     alloc: Global,
     words: &[String],
@@ -139,9 +140,11 @@ pub fn offline<S: Source, K: Sink, F: Files>(
     ensures unread { (IsReplay (map string_bytes words.now) → ⊥) → Keeps (S.left input.old) (S.left input.new) }
     ensures kept { F.files files.new ≡ F.files files.old }
 
-    // All that the source held is records, and just their answers were written, or the file is accepted.
+    // All that the source held is records, and just their answers were written; or the file is accepted; or the lines of the
+    // load were written.
     ensures done { result ≡ 0 → (IsReplay (map string_bytes words.now) × IsDone (S.left input.old) (S.left input.new) (K.written out.old) (K.written out.new))
-        ⊎ ((name : List ℕ) × IsCheck name (map string_bytes words.now) × WasAccepted (F.files files.old) name (K.written out.old) (K.written out.new)) }
+        ⊎ ((name : List ℕ) × IsCheck name (map string_bytes words.now) × WasAccepted (F.files files.old) name (K.written out.old) (K.written out.new))
+        ⊎ WasReported (map string_bytes words.now) (K.written out.old) (K.written out.new) }
     ensures memory { result ≡ 4 → IsUntouched (S.left input.old) (S.left input.new) (K.written out.old) (K.written out.new) }
 
     // The text of the file has a fault, and the first is told.
@@ -164,19 +167,25 @@ pub fn offline<S: Source, K: Sink, F: Files>(
 
     // A write failed: a front of what was due was written.
     ensures output { result ≡ 8 → (IsReplay (map string_bytes words.now) × WasStopped (S.left input.old) (S.left input.new) (K.written out.old) (K.written out.new))
-        ⊎ ((name : List ℕ) × IsCheck name (map string_bytes words.now) × WasCutShort (F.files files.old) name (K.written out.old) (K.written out.new)) }
+        ⊎ ((name : List ℕ) × IsCheck name (map string_bytes words.now) × WasCutShort (F.files files.old) name (K.written out.old) (K.written out.new))
+        ⊎ ReportWasCut (map string_bytes words.now) (K.written out.old) (K.written out.new) }
     ensures write_fault { result ≡ 8 → Rises (K.faults out.old) (K.faults out.new) }
     ensures no_write_fault { (result ≡ 0) ⊎ (result ≡ 4) ⊎ (result ≡ 6) ⊎ (result ≡ 7) → K.faults out.new ≡ K.faults out.old }
 
-    // Where nothing fails, a stream is answered, what is none is told so, and of a file its content alone decides.
+    // Where nothing fails, a stream is answered, what is none is told so, of a file its content alone decides, and a load is
+    // told.
     ensures complete { (octets : List ℕ) (records : List Item) → S.left input.old ≡ Some octets → IsStream octets records → IsReplay (map string_bytes words.now)
         → (Rises (S.faults input.old) (S.faults input.new) → ⊥) → (Rises (K.faults out.old) (K.faults out.new) → ⊥) → (result ≡ 0) ⊎ (result ≡ 4) }
     ensures refused { (octets : List ℕ) → S.left input.old ≡ Some octets → IsNoStream octets → IsReplay (map string_bytes words.now)
         → (Rises (S.faults input.old) (S.faults input.new) → ⊥) → (Rises (K.faults out.old) (K.faults out.new) → ⊥) → (result ≡ 6) ⊎ (result ≡ 4) }
     ensures checked { (fs : List port.File) (name text : List ℕ) → F.files files.old ≡ Some fs → content name fs ≡ Some text → IsCheck name (map string_bytes words.now)
         → (Rises (F.faults files.old) (F.faults files.new) → ⊥) → (Rises (K.faults out.old) (K.faults out.new) → ⊥) → (result ≡ content_status text) ⊎ (result ≡ 4) }
+    ensures reported { (seed count : ℕ) → IsGen seed count (map string_bytes words.now) → (Rises (K.faults out.old) (K.faults out.new) → ⊥) → (result ≡ 0) ⊎ (result ≡ 4) }
 {
     if !is_replay(words) {
+        if let Some((seed, count)) = load_to_report(words) {
+            return report_load(alloc, seed, count, out);
+        }
         let Some(name) = file_to_check(words) else {
             write_line(out, USAGE);
             return 2;

@@ -13,7 +13,7 @@ ghost use Rattle.conf_check.specs.Checking.{WasAccepted, WasCutShort, WasFaulty,
 ghost use Rattle.reflector_serve.specs.Ports.{port_view};
 ghost use Rattle.reflector_serve.specs.Served.{desk_view};
 ghost use Rattle.file_service.specs.Service.{HasServed, HasLostReport, HasNoReport, HasClosedPort, HasClosedDesk, HasTooFewPorts, OfFile, HasRisen, OneHasFailed, NothingFails};
-ghost use Rattle.stampd.specs.Command.{IsReplay, IsCheck, IsRun, IsAnyCommand, usage};
+ghost use Rattle.stampd.specs.Command.{IsReplay, IsCheck, IsRun, IsGen, IsAnyCommand, WasReported, ReportWasCut, usage};
 ghost use Rattle.stampd.specs.Replay.{IsStream, IsNoStream, IsDone, HasLeft, WasCutOff, WasStopped, IsUntouched};
 
 use crate::offline::offline;
@@ -30,7 +30,7 @@ use std::thread::Threads;
 /// until all have ended, and writes the report: 0 where each worker and the desk came to their end, 9 where a port failed, 10
 /// where the desk did, and 11 where a budget was spent; 3 for a fault of the file or too few ports, 4 for want of memory, 5
 /// where the file wasn't loaded, and 8 where the report wasn't written. All other words are those of `offline`.
-#[tactic(auto, using(crate::proofs::Commands::replay_run, crate::proofs::Commands::check_run))]
+#[tactic(auto, using(crate::proofs::Commands::replay_run, crate::proofs::Commands::check_run, crate::proofs::Commands::gen_run))]
 pub fn stampd<R: Threads + Sync, S: Source, K: Sink, F: Files, P: Port + Send, D: Desk>(
     rt: &R,
     alloc: Global,
@@ -54,10 +54,11 @@ pub fn stampd<R: Threads + Sync, S: Source, K: Sink, F: Files, P: Port + Send, D
     ensures unserved { ((name : List ℕ) → IsRun name (map string_bytes words.now) → ⊥) → (ports.new ≡ ports.old) × (desk.new ≡ desk.old) }
 
     // All that the source held is records, and just their answers were written; or the file is accepted; or the reflector
-    // served by the file, with this report, which was written.
+    // served by the file, with this report, which was written; or the lines of the load were written.
     ensures done { result ≡ 0 → (IsReplay (map string_bytes words.now) × IsDone (S.left input.old) (S.left input.new) (K.written out.old) (K.written out.new))
         ⊎ ((name : List ℕ) × IsCheck name (map string_bytes words.now) × WasAccepted (F.files files.old) name (K.written out.old) (K.written out.new))
-        ⊎ ((name : List ℕ) × IsRun name (map string_bytes words.now) × OfFile (F.files files.old) name ports.old (λ f. HasServed (port_view P.log P.coming P.bound P.made P.faults) (desk_view D.log D.coming D.made D.faults) f ports.old ports.new desk.old desk.new 0 (K.written out.old) (K.written out.new) (K.faults out.old) (K.faults out.new))) }
+        ⊎ ((name : List ℕ) × IsRun name (map string_bytes words.now) × OfFile (F.files files.old) name ports.old (λ f. HasServed (port_view P.log P.coming P.bound P.made P.faults) (desk_view D.log D.coming D.made D.faults) f ports.old ports.new desk.old desk.new 0 (K.written out.old) (K.written out.new) (K.faults out.old) (K.faults out.new)))
+        ⊎ WasReported (map string_bytes words.now) (K.written out.old) (K.written out.new) }
     ensures memory { result ≡ 4 → IsUntouched (S.left input.old) (S.left input.new) (K.written out.old) (K.written out.new) }
     ensures memory_served { result ≡ 4 → ((ports.new ≡ ports.old) × (desk.new ≡ desk.old))
         ⊎ ((name : List ℕ) × IsRun name (map string_bytes words.now) × OfFile (F.files files.old) name ports.old (λ f. HasNoReport (port_view P.log P.coming P.bound P.made P.faults) (desk_view D.log D.coming D.made D.faults) f ports.old ports.new desk.old desk.new)) }
@@ -84,7 +85,8 @@ pub fn stampd<R: Threads + Sync, S: Source, K: Sink, F: Files, P: Port + Send, D
     // A write failed: a front of what was due was written.
     ensures output { result ≡ 8 → (IsReplay (map string_bytes words.now) × WasStopped (S.left input.old) (S.left input.new) (K.written out.old) (K.written out.new))
         ⊎ ((name : List ℕ) × IsCheck name (map string_bytes words.now) × WasCutShort (F.files files.old) name (K.written out.old) (K.written out.new))
-        ⊎ ((name : List ℕ) × IsRun name (map string_bytes words.now) × OfFile (F.files files.old) name ports.old (λ f. HasLostReport (port_view P.log P.coming P.bound P.made P.faults) (desk_view D.log D.coming D.made D.faults) f ports.old ports.new desk.old desk.new (K.written out.old) (K.written out.new) (K.faults out.old) (K.faults out.new))) }
+        ⊎ ((name : List ℕ) × IsRun name (map string_bytes words.now) × OfFile (F.files files.old) name ports.old (λ f. HasLostReport (port_view P.log P.coming P.bound P.made P.faults) (desk_view D.log D.coming D.made D.faults) f ports.old ports.new desk.old desk.new (K.written out.old) (K.written out.new) (K.faults out.old) (K.faults out.new)))
+        ⊎ ReportWasCut (map string_bytes words.now) (K.written out.old) (K.written out.new) }
     ensures write_fault { result ≡ 8 → Rises (K.faults out.old) (K.faults out.new) }
     ensures no_write_fault { (result ≡ 0) ⊎ (result ≡ 4) ⊎ (result ≡ 6) ⊎ (result ≡ 7) → K.faults out.new ≡ K.faults out.old }
 
@@ -97,13 +99,16 @@ pub fn stampd<R: Threads + Sync, S: Source, K: Sink, F: Files, P: Port + Send, D
     ensures port_cause { result ≡ 9 → OneHasFailed (port_view P.log P.coming P.bound P.made P.faults) ports.old ports.new }
     ensures desk_cause { result ≡ 10 → HasRisen (D.faults desk.old) (D.faults desk.new) }
 
-    // Where nothing fails, a stream is answered, what is none is told so, and of a file its content alone decides.
+    // Where nothing fails, a stream is answered, what is none is told so, of a file its content alone decides, and a load is
+    // told.
     ensures complete { (octets : List ℕ) (records : List Item) → S.left input.old ≡ Some octets → IsStream octets records → IsReplay (map string_bytes words.now)
         → (Rises (S.faults input.old) (S.faults input.new) → ⊥) → (Rises (K.faults out.old) (K.faults out.new) → ⊥) → (result ≡ 0) ⊎ (result ≡ 4) }
     ensures refused { (octets : List ℕ) → S.left input.old ≡ Some octets → IsNoStream octets → IsReplay (map string_bytes words.now)
         → (Rises (S.faults input.old) (S.faults input.new) → ⊥) → (Rises (K.faults out.old) (K.faults out.new) → ⊥) → (result ≡ 6) ⊎ (result ≡ 4) }
     ensures checked { (fs : List port.File) (name text : List ℕ) → F.files files.old ≡ Some fs → content name fs ≡ Some text → IsCheck name (map string_bytes words.now)
         → (Rises (F.faults files.old) (F.faults files.new) → ⊥) → (Rises (K.faults out.old) (K.faults out.new) → ⊥) → (result ≡ content_status text) ⊎ (result ≡ 4) }
+
+    ensures reported { (seed count : ℕ) → IsGen seed count (map string_bytes words.now) → (Rises (K.faults out.old) (K.faults out.new) → ⊥) → (result ≡ 0) ⊎ (result ≡ 4) }
 
     // Likewise of a file to serve; and what is served ends with 0 where no budget is spent besides.
     ensures turned_away { (fs : List port.File) (name text : List ℕ) → F.files files.old ≡ Some fs → content name fs ≡ Some text → IsRun name (map string_bytes words.now)

@@ -1,7 +1,13 @@
 //! The words of the command line.
 
 ghost use Rattle.std.specs.Prelude.{ℕ, ◌≡◌, List, IsTrue, MatchOption, map, string_bytes};
-ghost use Rattle.stampd.specs.Command.{IsReplay, IsCheck, IsRun, IsFileCommand};
+ghost use Rattle.stampd.specs.Command.{IsReplay, IsCheck, IsRun, IsGen, AreNumbers, IsFileCommand};
+
+use load_report::COUNT_LIMIT;
+use text_forms::{law_number_texts, number_from};
+
+/// The greatest number of ten digits.
+const SEED_LIMIT: u64 = 9_999_999_999;
 
 /// Whether the words are just `replay`.
 pub fn is_replay(words: &[String]) -> bool
@@ -42,4 +48,29 @@ pub fn file_to_run(words: &[String]) -> Option<&str>
     ensures { MatchOption result ((name : List ℕ) → IsRun name (map string_bytes words.now) → ⊥) (λ name. IsRun name.now (map string_bytes words.now)) }
 {
     file_behind("run", words)
+}
+
+/// The seed and the count that two words are, where they are that.
+fn seed_and_count(first: &[u8], second: &[u8]) -> Option<(u64, u32)>
+    ensures { MatchOption result ((seed count : ℕ) → AreNumbers seed count first.now second.now → ⊥) (λ l. AreNumbers l.0 l.1 first.now second.now) }
+{
+    law_number_texts();
+    let seed = number_from(0, SEED_LIMIT, first)?;
+    let count = number_from(0, u64::from(COUNT_LIMIT), second)?;
+    Some((seed, count as u32))
+}
+
+/// The seed and the count of `gen SEED COUNT`, where the words are that.
+pub fn load_to_report(words: &[String]) -> Option<(u64, u32)>
+    ensures { MatchOption result ((seed count : ℕ) → IsGen seed count (map string_bytes words.now) → ⊥) (λ l. IsGen l.0 l.1 (map string_bytes words.now)) }
+{
+    match words {
+        [word, first, second] => {
+            if word.as_str() != "gen" {
+                return None;
+            }
+            seed_and_count(first.as_bytes(), second.as_bytes())
+        }
+        _ => None,
+    }
 }

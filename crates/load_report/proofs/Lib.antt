@@ -1,0 +1,3 @@
+pub mod AnswerCodes
+pub mod Going
+pub mod Samples
