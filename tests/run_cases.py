@@ -6,6 +6,7 @@ import pathlib
 import subprocess
 import sys
 
+import operator_talk
 import scripted
 from hex_text import octets
 
@@ -32,6 +33,12 @@ def file_cases(folder):
             octets((case / "output").read_text()),
             int((case / "status").read_text()),
         )
+
+
+def operator_cases(folder):
+    """A case a file of an operator's lines in octets, of which a model tells the answers."""
+    for file in sorted(folder.glob("*.lines")):
+        yield file.stem, [octets(line) for line in file.read_text().splitlines()]
 
 
 def difference(found, wanted):
@@ -69,6 +76,11 @@ def main():
         for folder in (here / "cases", here / "found")
         if folder.exists()
         for name, *case in [*file_cases(folder), *checked_cases(folder)]
+    ]
+    results += [
+        (name, guarded(operator_talk.difference, program, pieces))
+        for folder in (here / "cases", here / "found")
+        for name, pieces in operator_cases(folder)
     ]
     results += [(name, guarded(run, program)) for name, run in scripted.cases()]
     for name, wrong in results:
