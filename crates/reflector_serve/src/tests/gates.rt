@@ -158,7 +158,7 @@ impl Port for GatedPort {
         if !passes(&mut self.gates) {
             return Ok(Got::End);
         }
-        buf[..META.len].fill(0);
+        buf.fill(0);
         Ok(Got::Datagram(META))
     }
 
