@@ -120,6 +120,13 @@ fn a_connection_ends_as_the_table_says(rt: HostRuntime) {
     }
 }
 
+/// So many octets of the server's, and these behind them.
+fn replies_then(rt: &impl Abort, alloc: Global, count: usize, last: &[u8]) -> Vec<u8> {
+    let mut all = Vec::from_slice(alloc, part(rt, &server_octets(), 0, count)).expect(rt, "room");
+    all.extend_from_slice(last).expect(rt, "room");
+    all
+}
+
 #[test]
 fn a_client_without_sessions_may_start_and_stop(rt: HostRuntime) {
     let octets = client_octets();
@@ -133,12 +140,12 @@ fn a_client_without_sessions_may_start_and_stop(rt: HostRuntime) {
         (0, Happens::Gives(7, part(&rt, &octets, 164, 276))),
     ];
     let played = play(&rt, rt.alloc(), FILE, 1, &events, &NO_LIMITS);
-    let mut wanted = [0; 192];
-    wanted[..112].copy_from_slice(&server_octets()[..112]);
-    wanted[146] = 0x03;
-    wanted[147] = 0x5E;
-    wanted[155] = 1;
-    expect_sent(&rt, rt.alloc(), &played, 7, &wanted, 0);
+    let mut last = [0; 80];
+    last[34] = 0x03;
+    last[35] = 0x5E;
+    last[43] = 1;
+    let wanted = replies_then(&rt, rt.alloc(), 112, &last);
+    expect_sent(&rt, rt.alloc(), &played, 7, wanted.as_slice(), 0);
     expect_ends(&rt, &played, 7, (0, 0, 0, 0), 0);
 }
 
@@ -196,11 +203,11 @@ fn a_key_that_is_taken_and_a_full_table_are_told_alike(rt: HostRuntime) {
         (5 * SECOND, Happens::Gives(7, part(&rt, &again, 164, 276))),
     ];
     let played = play(&rt, rt.alloc(), FILE, 1, &events, &NO_LIMITS);
-    let mut wanted = [0; 256];
-    wanted[..160].copy_from_slice(&server_octets()[..160]);
-    wanted[160] = 5;
-    wanted[208] = 5;
-    expect_sent(&rt, rt.alloc(), &played, 7, &wanted, 0);
+    let mut last = [0; 96];
+    last[0] = 5;
+    last[48] = 5;
+    let wanted = replies_then(&rt, rt.alloc(), 160, &last);
+    expect_sent(&rt, rt.alloc(), &played, 7, wanted.as_slice(), 0);
 }
 
 /// The Accept field and the port of each Accept-Session for requests that differ from the client's one in two octets, at these
@@ -224,8 +231,9 @@ fn accepts(
     }
     let mut events = Vec::new(alloc);
     events.push(OPENS).expect(rt, "room");
+    let set_up = part(rt, &octets, 0, 164);
     events
-        .push((0, Happens::Gives(7, &octets[..164])))
+        .push((0, Happens::Gives(7, set_up)))
         .expect(rt, "room");
     for request in &pieces {
         events
