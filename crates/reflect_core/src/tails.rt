@@ -1,13 +1,14 @@
 //! The TLVs of a reply (RFC 8972, section 4), written in one pass.
 
 ghost use Rattle.std.specs.Prelude.{◌≡◌, ◌+◌, ◌≤◌, ◌++◌, length, take, slice_index_or};
+ghost use Rattle.octet_format.specs.Octets.{field};
 ghost use Rattle.tlv_chain.specs.Split.{split};
 ghost use Rattle.tlv_integrity.specs.Integrity.{integrity};
 ghost use Rattle.reflect_core.specs.Tail.{failed_reply, processed_reply, WritesTail, tail_reply, with_flags, rest_flags};
 ghost use Rattle.reflect_core.specs.Ends.{is_intact, has_intact_tail};
 
 use keyed_config::KeyedConfig;
-use octet_format::{field4, put};
+use octet_format::put;
 use refl_types::Mode;
 use tlv_actions::{Acted, Plan, ReplyFacts, act, copy_tlv, is_understood};
 use tlv_chain::{HEADER_LEN, INTEGRITY_FAILED, MALFORMED, UNRECOGNIZED, Walk};
@@ -121,6 +122,15 @@ fn write_tail(
     }
 }
 
+/// The octets of the Sequence Number of a request, where they stand.
+#[inline(always)]
+fn asked_octets(input: &[u8]) -> &[u8; 4]
+    requires { 4 ≤ length input.now }
+    ensures { result.now ≡ field 0 4 input.now }
+{
+    input.first_chunk().unwrap()
+}
+
 /// Writes the tail of a reply after its base packet, which has as many octets as the request's, and says whether the
 /// integrity of the request's tail hasn't failed.
 #[inline(always)]
@@ -141,14 +151,14 @@ fn write_tail_at(
     ensures intact { result ≡ has_intact_tail at mode config.now input.now }
 {
     let (_, tail) = input.split_at(at);
-    let asked = field4(input, 0);
+    let asked = asked_octets(input);
     let answered = sequence.to_be_bytes();
     write_tail(
         mode,
         config,
         number,
         plan,
-        &asked,
+        asked,
         &answered,
         tail,
         &mut out[at..input.len()],
@@ -188,7 +198,7 @@ pub fn has_intact_tail(mode: Mode, config: &KeyedConfig, octets: &[u8], at: usiz
 {
     let (_, tail) = octets.split_at(at);
     !matches!(
-        check_keyed(mode, config, &field4(octets, 0), tail),
+        check_keyed(mode, config, asked_octets(octets), tail),
         Integrity::Failed
     )
 }
