@@ -32,7 +32,7 @@ put_behind octets part at k n written rest within e len =
     let front = take at octets in
     let more = post_of at k octets in
     let parted : front ++ (part ++ more) ≡ (front ++ written) ++ (rest ++ more) =
-        ap (λ (l : List ℕ). front ++ (l ++ more)) e ∙ ap (λ (l : List ℕ). front ++ l) (append_assoc written rest more) ∙ sym (append_assoc front written (rest ++ more)) in
+    ap (λ (l : List ℕ). front ++ (l ++ more)) e ∙ ap (λ (l : List ℕ). front ++ l) (append_assoc written rest more) ∙ sym (append_assoc front written (rest ++ more)) in
     ap (take (at + n)) parted ∙ take_at (front ++ written) (rest ++ more) (at + n) (omega (arith, length-append front written, length-take-le at octets within, len))
 
 -- a list of one element
