@@ -2,9 +2,9 @@
 """Talks to a daemon as an operator over the loopback interface, and compares its answers with those of a model."""
 
 import itertools
-import os
 import pathlib
 import re
+import secrets
 import socket
 import subprocess
 import tempfile
@@ -14,7 +14,6 @@ import operator_model
 
 SECONDS = 30
 PORT = 8620
-NUMBERS = itertools.count(1)
 
 
 def can_run(program):
@@ -24,9 +23,8 @@ def can_run(program):
 
 
 def fresh_address():
-    """An address of the loopback network that no daemon was started at by this process yet."""
-    number = next(NUMBERS)
-    return f"127.{1 + os.getpid() % 250}.{number // 250 % 250}.{1 + number % 250}"
+    """An address of the loopback network at which hardly anybody else listens."""
+    return f"127.{1 + secrets.randbelow(254)}.{secrets.randbelow(256)}.{1 + secrets.randbelow(254)}"
 
 
 def connection(process, address):
@@ -43,7 +41,6 @@ def connection(process, address):
 
 def answers_to(stream, octets):
     """All that the daemon answers to these octets before the connection ends. They are sent in pieces of uneven lengths."""
-    found = b""
     stream.setsockopt(socket.IPPROTO_TCP, socket.TCP_NODELAY, 1)
     try:
         for length in itertools.cycle((1, 40, 700, 3, 4096)):
@@ -52,12 +49,15 @@ def answers_to(stream, octets):
             stream.sendall(octets[:length])
             octets = octets[length:]
         stream.shutdown(socket.SHUT_WR)
-        while piece := stream.recv(65_536):
-            found += piece
-    except (BrokenPipeError, ConnectionResetError):
+    except OSError:
         # The daemon has hung up.
+        pass
+    found = b""
+    try:
         while piece := stream.recv(65_536):
             found += piece
+    except ConnectionResetError:
+        pass
     return found
 
 
