@@ -72,8 +72,15 @@ fn plain_requests_are_cut_at_each_length(rt: HostRuntime) {
     assert!(rt; tally == wanted);
     for (place, len, first) in [
         (49, 45, 0x80),
+        (52, 46, 0x80),
         (55, 47, 0x80),
         (58, 48, 0x40),
+        (61, 49, 0x40),
+        (64, 50, 0x40),
+        (67, 51, 0x40),
+        (70, 52, 0x40),
+        (73, 53, 0x40),
+        (76, 54, 0x40),
         (79, 55, 0x40),
         (82, 56, 0),
     ] {
@@ -168,11 +175,21 @@ fn sixty_four_failures_in_a_row_end_a_worker(rt: HostRuntime) {
 
 #[test]
 fn who_asks_for_no_reply_gets_none(rt: HostRuntime) {
-    let paths = config(&rt, 1 << 10, None);
+    let mut stage = Stage::new(&rt, rt.alloc(), 4);
+    stage.open(&rt, &plain_key(), &config(&rt, 1 << 10, None));
     let asks = with_tail([0x80, 10, 0, 8, 0x80, 1, 0, 4, 0, 0, 0, 0]);
-    let port = one_of(&rt, rt.alloc(), &paths, &asks);
-    assert!(rt; port.entry(0).is_some());
-    assert!(rt; sendings(&port, 0) == 0);
+    let mut script = Script::new(rt.alloc());
+    script.give(&rt, &sender(5000), &asks);
+    script.give(&rt, &sender(5000), &REQUEST);
+    let mut port = script.port(&rt, &[], &[], &[]);
+    let wanted = Tally {
+        taken: 2,
+        no_reply: 1,
+        sent: 1,
+        ..NOTHING
+    };
+    assert!(rt; stage.work(&mut port, 0, 100) == wanted);
+    assert!(rt; sendings(&port, 0) == 1);
 }
 
 /// What a worker takes under a limit and a budget, and how it ends.
@@ -216,13 +233,21 @@ fn a_request_is_judged_under_the_key_of_the_day(rt: HostRuntime) {
     let session = key(sender(5000), Mode::Auth, 7);
     let mut stage = Stage::new(&rt, rt.alloc(), 4);
     stage.open(&rt, &session, &config(&rt, USUAL_TLVS, Some(old)));
-    stage.set(&rt, &session, &config(&rt, USUAL_TLVS, Some(new)));
     let mut script = Script::new(rt.alloc());
-    script.give(&rt, &sender(5000), &signed(&old));
+    script.give_often(&rt, 2, &sender(5000), &signed(&old));
     script.give(&rt, &sender(5000), &signed(&new));
-    let tally = stage.work_out(&rt, script);
-    assert!(rt; tally.bad_hmac == 1);
-    assert!(rt; tally.sent == 1);
+    let mut port = script.port(&rt, &[], &[], &[]);
+    assert!(rt; stage.work(&mut port, 1, 100).sent == 1);
+    stage.set(&rt, &session, &config(&rt, USUAL_TLVS, Some(new)));
+    let wanted = Tally {
+        taken: 2,
+        bad_hmac: 1,
+        sent: 1,
+        ..NOTHING
+    };
+    assert!(rt; stage.work(&mut port, 0, 100) == wanted);
+    assert!(rt; sendings(&port, 0) == 1);
+    assert!(rt; sendings(&port, 1) == 1);
 }
 
 #[test]
