@@ -17,4 +17,4 @@ pub use mem_files::MemFiles;
 pub use memory::{MemSink, MemSource};
 pub use outside::{Failed, Sink, Source, count_failure, write_all};
 pub use plan::FailurePlan;
-pub use standard::{Output, StdSink, StdSource};
+pub use standard::{StdSink, StdSource};

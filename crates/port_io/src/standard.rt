@@ -7,7 +7,7 @@ ghost use Rattle.port_io.specs.Outside.{Rises, counted};
 use crate::outside::{Failed, Sink, Source, count_failure};
 use refl_types::Memory;
 use std::alloc::Global;
-use std::io::{self, Input, Read, Write};
+use std::io::{self, Input, Print, Printer, Read, Write};
 use std::marker::Model;
 
 /// A source over a reader. It tells what the reader tells.
@@ -58,22 +58,6 @@ impl<T: Read + Drop> Source for StdSource<T> {
     }
 }
 
-/// The runtime's standard output, as a writer.
-#[derive(Drop)]
-pub struct Output<R> {
-    rt: R,
-}
-
-impl<R: Print> Write for Output<R> {
-    fn write(&mut self, buf: &[u8]) -> io::Result<usize> {
-        self.rt.write_some(buf)
-    }
-
-    fn flush(&mut self) -> io::Result<()> {
-        Ok(())
-    }
-}
-
 /// A sink over a writer. It tells what the writer tells.
 #[derive(Drop)]
 pub struct StdSink<W> {
@@ -89,14 +73,14 @@ impl<W> Model for StdSink<W> {
     ghost view = { λ s. record { inner = s.writer; faults = s.faults } };
 }
 
-impl<R: Print + Drop> StdSink<Output<R>> {
+impl<'a, P: Print> StdSink<Printer<'a, P>> {
     /// The standard output.
-    pub fn make(rt: R, _alloc: Global) -> Result<StdSink<Output<R>>, Memory>
+    pub fn make(to: &'a P, _alloc: Global) -> Result<StdSink<Printer<'a, P>>, Memory>
         ensures always { IsOk result }
         ensures value { IfOk result (λ s. s.faults ≡ 0) }
     {
         Ok(StdSink {
-            writer: Output { rt },
+            writer: io::writer(to),
             faults: 0,
         })
     }

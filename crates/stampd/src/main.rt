@@ -62,7 +62,7 @@ fn main(rt: HostRuntime) -> ExitCode {
     let Ok(mut input) = StdSource::make(rt, alloc) else {
         return ExitCode::from(NO_MEMORY);
     };
-    let Ok(mut out) = StdSink::make(rt, alloc) else {
+    let Ok(mut out) = StdSink::make(&rt, alloc) else {
         return ExitCode::from(NO_MEMORY);
     };
     let Ok(mut files) = DiskFiles::make(rt, alloc) else {
