@@ -1,9 +1,9 @@
 //! Whether a datagram of a session is reflected (RFC 8762, section 4.3; RFC 9503, section 4.1.1).
 
-ghost use Rattle.std.specs.Prelude.{◌≡◌, ◌≤◌, IsSome, length};
+ghost use Rattle.std.specs.Prelude.{◌≡◌, ◌≤◌, true, IsSome, length};
 ghost use Rattle.refl_types.specs.HmacKey.{HasHmacKey};
 ghost use Rattle.refl_types.specs.declared.types.Mode.TheVariants.{Twamp};
-ghost use Rattle.reflect_core.specs.Judgement.{judgement, judged_length, judged_auth, judged_base, judged_tail};
+ghost use Rattle.reflect_core.specs.Judgement.{IsUsualPlain, judgement, judged_length, judged_auth, judged_base, judged_tail};
 
 use crate::session::Session;
 use crate::tails::has_intact_tail;
@@ -29,7 +29,7 @@ pub enum Judged {
     Silent(Silent),
 }
 
-#[inline]
+#[inline(always)]
 fn judge_length(octets: &[u8], least: usize) -> Judged
     ensures { result ≡ judged_length least octets.now }
 {
@@ -106,6 +106,26 @@ impl Session<'_> {
         ensures { result ≡ judgement self.now.key.now.mode self.now.config.now octets.now }
     {
         judge_length(octets, TEST_LEN)
+    }
+
+    /// Whether the session is of mode Plain, and no tail of its datagrams may say from where and to whom the reply is sent.
+    #[inline(always)]
+    pub fn is_usual_plain(&self) -> bool
+        ensures yes { result ≡ true → IsUsualPlain self.now.key.now.mode self.now.config.now }
+    {
+        match self.key.mode {
+            Mode::Plain => !self.may_redirect(),
+            Mode::Auth | Mode::Twamp => false,
+        }
+    }
+
+    /// Judges a datagram as `judge` does, where `is_usual_plain` is true.
+    #[inline(always)]
+    pub fn judge_usual_plain(&self, octets: &[u8]) -> Judged
+        requires { IsUsualPlain self.now.key.now.mode self.now.config.now }
+        ensures { result ≡ judgement self.now.key.now.mode self.now.config.now octets.now }
+    {
+        judge_length(octets, PLAIN_LEN)
     }
 
     /// Whether a datagram is reflected, where its tail is asked only if it may say something.

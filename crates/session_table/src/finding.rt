@@ -37,6 +37,7 @@ enum Visit {
 }
 
 /// The slot after this one, past the last the first.
+#[inline(always)]
 #[tactic(auto, unfolding(session_world::specs::Keys::next_slot))]
 fn next(slot: u32, slots: u32) -> u32
     requires { slot < slots }
@@ -47,6 +48,7 @@ fn next(slot: u32, slots: u32) -> u32
 }
 
 /// Announces a slot, looks at it, and reads its key where it is open.
+#[inline(always)]
 fn look_at(table: &Table, seat: &mut WorkerSeat, slot: u32, sought: &Sought) -> Visit
     requires same { IsWorkerOf table.now seat.old }
     requires inside { slot < (size_of table.now).slots }
@@ -75,7 +77,7 @@ fn look_at(table: &Table, seat: &mut WorkerSeat, slot: u32, sought: &Sought) -> 
 
 /// Walks from the start for the query's sender on: each slot is announced, looked at, and passed where it isn't the session's;
 /// a slot that was never used ends the walk. A session that is met is held.
-#[inline]
+#[inline(always)]
 fn walk(table: &Table, seat: &mut WorkerSeat, sought: &Sought) -> Seen
     requires same { IsWorkerOf table.now seat.old }
     ensures walks { EndsWalk (size_of table.now) (worker_steps seat.old) (worker_steps seat.new) sought.now result }
@@ -147,7 +149,7 @@ pub fn find(table: &Table, seat: &mut WorkerSeat, meta: &Meta, octets: &[u8]) ->
 }
 
 /// The same, but that the row's configuration is kept in `known`, and its words are loaded only where it wasn't.
-#[inline]
+#[inline(always)]
 pub fn find_by(
     table: &Table,
     seat: &mut WorkerSeat,

@@ -8,7 +8,7 @@ ghost use Rattle.refl_types.specs.declared.types.Mode.{Mode};
 ghost use Rattle.session_table.specs.Sought.{first_word, second_word, IsTold};
 
 use refl_types::{Extra, Key, Meta, Mode, law_same};
-use session_key::{Query, key_words, law_words};
+use session_key::{Query, first_words, law_words};
 use std::marker::Model;
 
 /// A query, and the words of the keys that it matches. Contracts see it as the query.
@@ -33,12 +33,6 @@ impl Model for Sought {
     ghost invariant = { λ s. AreSought s.query s.first s.second s.plain s.auth s.twamp };
 }
 
-/// What a session has that has agreed on nothing besides its key.
-const NO_EXTRA: Extra = Extra {
-    symmetrical: false,
-    reflect: 0,
-};
-
 /// The third word of a session in another mode than Twamp, with an SSID; or that of mode Twamp where there is none.
 #[inline(always)]
 fn told(twamp: u64, less: u64, ssid: Option<u16>) -> u64
@@ -55,26 +49,21 @@ fn told(twamp: u64, less: u64, ssid: Option<u16>) -> u64
 
 impl Sought {
     /// The words for a datagram.
+    #[inline(always)]
     pub(crate) fn of(meta: &Meta, octets: &[u8]) -> Sought
         ensures { result ≡ query_of meta.now.local meta.now.peer octets.now }
     {
         let query = Query::of(meta, octets);
-        let key = Key {
-            local: query.local,
-            peer: query.peer,
-            mode: Mode::Twamp,
-            ssid: 0,
-        };
-        let words = key_words(&key, &NO_EXTRA);
-        let plain = told(words[2], 4, query.plain);
-        let auth = told(words[2], 2, query.auth);
+        let (first, second, twamp) = first_words(query.local, &query.peer, Mode::Twamp, 0);
+        let plain = told(twamp, 4, query.plain);
+        let auth = told(twamp, 2, query.auth);
         Sought {
             query,
-            first: words[0],
-            second: words[1],
+            first,
+            second,
             plain,
             auth,
-            twamp: words[2],
+            twamp,
         }
     }
 
@@ -87,6 +76,7 @@ impl Sought {
     }
 
     /// The mode of the session that has this third word and the query's SSID.
+    #[inline(always)]
     fn mode(&self, third: u64) -> Option<Mode>
         ensures some { IfSome result (IsTold self.now third) }
         ensures none { result ≡ None → (m : Mode) → ¬ IsTold self.now third m }
@@ -104,6 +94,7 @@ impl Sought {
     }
 
     /// Whether the first two words are those of the query's sender.
+    #[inline(always)]
     fn has_address(&self, first: u64, second: u64) -> bool
         ensures { result ≡ (first == first_word self.now && second == second_word self.now) }
     {
@@ -111,6 +102,7 @@ impl Sought {
     }
 
     /// The key for which a slot's words stand, where the query matches it.
+    #[inline(always)]
     pub(crate) fn matched(&self, words: &[u64; 4]) -> Option<Key>
         requires { AreKeyWords words.now }
         ensures some { IfSome result (λ k. (k ≡ key_of_words words.now) × (matches self.now k ≡ true)) }
@@ -138,6 +130,7 @@ impl Sought {
 }
 
 /// The extra for which a slot's words stand.
+#[inline(always)]
 pub(crate) fn extra_of(words: &[u64; 4]) -> Extra
     requires { AreKeyWords words.now }
     ensures value { result ≡ extra_of_words words.now }

@@ -11,6 +11,4 @@ returns-in-V4 c =
     ∙ ap (λ (a : Address). fnv_from c.args.start (family a ∷ address_octets a)) (sym c.in-V4.is)
 
 pub returns-in-V6 : goal.returns-in-V6
-returns-in-V6 c =
-    c.fnv_ipv6.ensures
-    ∙ ap (λ (a : Address). fnv_from c.args.start (family a ∷ address_octets a)) (sym c.in-V6.is)
+returns-in-V6 c = c.fnv_ipv6.ensures ∙ ap (λ (a : Address). fnv_from c.args.start (family a ∷ address_octets a)) (sym c.in-V6.is)
