@@ -62,6 +62,3 @@ accept_known rows c row is = rw (known_accepted rows c row is) refl
 
 pub accept_next : (rows : Rows) (c : ConfigParts) (row : ℕ) → IsSought rows c (Next row) → accept c rows.configs ≡ rows.configs ++ c ∷ []
 accept_next rows c row is = rw (none-accepted rows c is.0) refl
-
-pub never_full : (rows : Rows) (c : ConfigParts) → rows.limit ≡ 1024 → may_accept c rows.configs ≡ true → IsSought rows c RowsFull → ⊥
-never_full rows c limit may is = let e : true ≡ false = sym may ∙ sym (sought_open rows c RowsFull limit is) in cc
