@@ -1,5 +1,5 @@
 -- A load that is answered up to an index.
-use Rattle.std.proofs.Common.{◌≡◌, ℕ, ◌+◌, ◌*◌, ◌≤◌, List, [], ◌∷◌, ◌++◌, length, refl, sym, ap, subst, ◌∙◌, arith}
+use Rattle.std.proofs.Common.{◌≡◌, ℕ, ◌+◌, ◌*◌, ◌≤◌, List, [], ◌∷◌, ◌++◌, length, refl, sym, ap, subst, arith}
 use Rattle.std.proofs.lemmas.List.{length-append}
 use Rattle.replay_format.specs.Records.{Item, spelling, spellings}
 use Rattle.replay_format.specs.Answers.{answer_octets}
@@ -37,7 +37,7 @@ pub goes_on : (seed : ℕ) (sessions sessions' : Kept) (c c' : Counts) (i : ℕ)
 goes_on seed sessions sessions' c c' i h short stands same =
     let records : List Item = answered seed i in
     let item : Item = record_of seed i in
-    let more : answered seed (i + 1) ≡ records ++ item ∷ [] = records_push seed 0 i in
+    let more : answered seed (i + 1) ≡ records ++ item ∷ [] = records_push seed 0 i i (omega arith) in
     let one = answers_from-push empty_table records item in
     record {
       stands = subst (Stands sessions') (sym more) stands;
@@ -47,6 +47,8 @@ goes_on seed sessions sessions' c c' i h short stands same =
       octets = omega (arith, h.octets, ap (λ (l : List Item). length (answers l)) more, ap length one, length-append (answers records) (answer_octets (answer (table_after empty_table records) item)), ap (λ (k : Counts). k.octets) same);
     }
 
-pub ends : (seed count : ℕ) (sessions : Kept) (c : Counts) → Going seed sessions c (8 + count) → c ≡ counts_of seed count
+pub ends : (seed count : ℕ) (sessions : Kept) (c : Counts) (i : ℕ) → Going seed sessions c i → i ≡ 8 + count → c ≡ counts_of seed count
 unfolding counts_of
-ends seed count sessions c h = same_counts c _ h.sent h.no_session h.octets
+ends seed count sessions c i h all =
+    let was = subst (Going seed sessions c) all h in
+    same_counts c (counts_of seed count) was.sent was.no_session was.octets

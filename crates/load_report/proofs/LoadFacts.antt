@@ -1,5 +1,5 @@
 -- The records of a load, one more than before.
-use Rattle.std.proofs.Common.{◌≡◌, ℕ, zero, suc, ◌+◌, ◌*◌, ◌≤◌, ◌^◌, Bool, List, [], ◌∷◌, ◌++◌, length, ap, ◌∙◌, arith}
+use Rattle.std.proofs.Common.{◌≡◌, ℕ, zero, suc, ◌+◌, ◌*◌, ◌≤◌, Bool, List, [], ◌∷◌, ◌++◌, length, ap, ◌∙◌, arith}
 use Rattle.std.proofs.lemmas.List.{length-append}
 use Rattle.replay_format.specs.Records.{Item, spelling, spellings}
 use Rattle.replay_format.specs.Answers.{Answer}
@@ -10,17 +10,14 @@ use Rattle.load_gen.specs.Generator.{record_of}
 use Rattle.load_report.specs.Kinds.{one_if}
 use Rattle.load_report.specs.Counting.{records_from, how_many}
 
-pub records_push : (seed i n : ℕ) → records_from seed i (n + 1) ≡ records_from seed i n ++ record_of seed (i + n) ∷ []
+pub records_push : (seed i n j : ℕ) → j ≡ i + n → records_from seed i (n + 1) ≡ records_from seed i n ++ record_of seed j ∷ []
 unfolding records_from
-records_push seed i zero =
-    let here : i ≡ i + 0 = omega arith in
-    ap (λ (j : ℕ). record_of seed j ∷ []) here
-records_push seed i (suc n) =
+records_push seed i zero j last =
+    let here : i ≡ j = omega (arith, last) in
+    ap (λ (k : ℕ). record_of seed k ∷ []) here
+records_push seed i (suc n) j last =
     let one : suc n + 1 ≡ suc (n + 1) = omega arith in
-    let there : (i + 1) + n ≡ i + suc n = omega arith in
-    ap (records_from seed i) one
-    ∙ ap (λ (l : List Item). record_of seed i ∷ l) (records_push seed (i + 1) n)
-    ∙ ap (λ (j : ℕ). record_of seed i ∷ (records_from seed (i + 1) n ++ record_of seed j ∷ [])) there
+    ap (records_from seed i) one ∙ ap (λ (l : List Item). record_of seed i ∷ l) (records_push seed (i + 1) n j (omega (arith, last)))
 
 pub how_many-push : (kind : Answer → Bool) (t : Table) (records : List Item) (item : Item) → how_many kind t (records ++ item ∷ []) ≡ how_many kind t records + one_if (kind (answer (table_after t records) item))
 unfolding how_many table_after

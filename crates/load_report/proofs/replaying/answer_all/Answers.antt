@@ -1,5 +1,5 @@
-use Rattle.std.proofs.Common.{◌+◌, ◌≡◌, subst, ℕ, arith}
-use Rattle.load_report.proofs.Going.{Going, begins, answered, load_within, goes_on, ends}
+use Rattle.std.proofs.Common.{arith}
+use Rattle.load_report.proofs.Going.{begins, answered, load_within, goes_on, ends}
 use Rattle.load_report.proofs.replaying.answer_all.Goals as goal
 
 pub loop-index-init : goal.loop-index-init
@@ -25,6 +25,4 @@ loop-index-preserved c =
     }
 
 pub returns : goal.returns
-returns c =
-    let last : c.loop-index.index ≡ 8 + c.args.count = omega (arith, c.loop-index-test.false, c.loop-index.auto.index-end) in
-    ends c.args.seed c.args.count _ _ (subst (λ (i : ℕ). Going c.args.seed _ _ i) last c.loop-index.invariant.going)
+returns c = ends c.args.seed c.args.count _ _ c.loop-index.index c.loop-index.invariant.going (omega (arith, c.loop-index-test.false, c.loop-index.auto.index-end))
