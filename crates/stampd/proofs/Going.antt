@@ -12,8 +12,8 @@ use Rattle.replay_format.specs.Answers.{Left, answer_octets}
 use Rattle.replay_format.proofs.RecordFacts.{one_front}
 use Rattle.replay_format.proofs.Formats.{item_obeys, spelling_short}
 use Rattle.replay_format.proofs.StreamFacts.{spellings-cons, spellings-push}
-use Rattle.replay_table.specs.Table.{Table, empty_table}
-use Rattle.replay_table.specs.Outcomes.{answer, after, answers, answers_from, table_after}
+use Rattle.replay_table.specs.Table.{empty_table}
+use Rattle.replay_table.specs.Outcomes.{answer, answers, answers_from, table_after}
 use Rattle.replay_table.proofs.StreamFacts.{answers_from-push}
 use Rattle.shared_replay.specs.Stands.{Kept, Stands}
 use Rattle.stampd.specs.Replay.{IsStream, IsNoStream, Takes, LeavesGrammar, answers_and_offset, IsDone, HasLeft, WasCutOff, WasStopped}
