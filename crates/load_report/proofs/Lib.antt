@@ -1,3 +1,4 @@
 pub mod AnswerCodes
+pub mod LoadFacts
 pub mod Going
 pub mod Samples

@@ -1,17 +1,18 @@
 //! The records of a load are answered, one after the other.
 
-ghost use Rattle.std.specs.Prelude.{ℕ, ◌≡◌, ◌+◌, ◌<◌, ◌≤◌, ◌^◌, IfOk, length};
+ghost use Rattle.std.specs.Prelude.{ℕ, ◌≡◌, ◌+◌, ◌<◌, ◌≤◌, ◌^◌, List, [], ◌∷◌, ◌++◌, IfOk, length};
 ghost use Rattle.load_gen.specs.Generator.{record_of};
-ghost use Rattle.replay_table.specs.Table.{Table, empty_table};
-ghost use Rattle.replay_table.specs.Outcomes.{answer, after};
-ghost use Rattle.replay_table.specs.Stands.{Stands};
+ghost use Rattle.replay_format.specs.Records.{Item, spelling};
+ghost use Rattle.replay_table.specs.Table.{empty_table};
+ghost use Rattle.replay_table.specs.Outcomes.{answer, table_after};
+ghost use Rattle.shared_replay.specs.Stands.{Stands, AreWithin};
 ghost use Rattle.load_report.specs.Counting.{counted, counts_of};
 
 use crate::counting::Counts;
 use load_gen::generate;
 use refl_types::Memory;
 use replay_format::{Parsed, read_again, read_record};
-use replay_table::{ANSWER_ROOM, Sessions};
+use shared_replay::{ANSWER_ROOM, Sessions};
 use std::alloc::Global;
 
 /// How many sessions a load opens before its datagrams.
@@ -28,7 +29,8 @@ fn answer_record(
     requires room { ANSWER_ROOM ≤ length room.old }
     requires numbers { (counts.old.sent < 2 ^ 31) × (counts.old.no_session < 2 ^ 31) }
     requires octets { counts.old.octets < 2 ^ 63 }
-    ensures answered { (t : Table) → Stands sessions.old t → Stands sessions.new (after t (record_of seed index)) × (counts.new ≡ counted counts.old (answer t (record_of seed index))) }
+    ensures answered { (records : List Item) → Stands sessions.old records → AreWithin records → Stands sessions.new (records ++ record_of seed index ∷ []) × (counts.new ≡ counted counts.old (answer (table_after empty_table records) (record_of seed index))) }
+    ensures short { length (spelling (record_of seed index)) ≤ 256 }
     ensures sent { counts.new.sent ≤ counts.old.sent + 1 }
     ensures no_session { counts.new.no_session ≤ counts.old.no_session + 1 }
     ensures octets { counts.new.octets ≤ counts.old.octets + ANSWER_ROOM }
@@ -49,7 +51,7 @@ fn answer_record(
 fn answer_all(seed: u64, count: u32, sessions: &mut Sessions, room: &mut [u8]) -> Counts
     requires limit { count ≤ 1000000 }
     requires room { ANSWER_ROOM ≤ length room.old }
-    requires empty { Stands sessions.old empty_table }
+    requires empty { Stands sessions.old [] }
     ensures { result ≡ counts_of seed count }
 {
     let mut counts = Counts {

@@ -6,3 +6,4 @@ pub mod AnswerFacts
 pub mod WholeFacts
 pub mod WritingFacts
 pub mod AnswerLaws
+pub mod StreamFacts

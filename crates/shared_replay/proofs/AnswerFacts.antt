@@ -34,7 +34,7 @@ use Rattle.replay_format.specs.Records.{Opening}
 use Rattle.replay_table.specs.Table.{Entry, Table, is_bound, has_clash, is_accepted, may_accept, accept}
 use Rattle.replay_table.specs.Outcomes.{session_limit, lacks_key, open_answer_of, open_answer, after_opening}
 use Rattle.replay_table.proofs.AnswerFacts.{refused_opening}
-use Rattle.replay_table.proofs.ConfigFacts.{known_accepted, sought_open, accept_known, accept_next}
+use Rattle.shared_replay.proofs.ConfigFacts.{known_accepted, sought_open, accept_known, accept_next}
 use Rattle.shared_replay.specs.Stands.{keys_of, HoldsTable, HasOpened, refusal}
 use Rattle.shared_replay.proofs.KeyFacts.{any_map, length_map, few_live}
 

@@ -1,6 +1,7 @@
 pub mod EntryFacts
 pub mod KeyFacts
 pub mod CallFacts
+pub mod ConfigFacts
 pub mod TurnFacts
 pub mod ArrivalFacts
 pub mod AnswerFacts

@@ -1,8 +1,7 @@
 -- The table after records: what holds of its sessions, and how long the records' spellings are.
-use Rattle.std.proofs.Common.{◌≡◌, ⊎_elim, ℕ, ◌+◌, ◌≤◌, ◌^◌, Bool, true, false, ◌&&◌, not, List, [], ◌∷◌, ◌++◌, length, sym, refl, ap, ◌∙◌, subst, arith, Option, Some, None}
+use Rattle.std.proofs.Common.{◌≡◌, ⊎_elim, ℕ, ◌+◌, ◌≤◌, ◌^◌, Bool, true, false, ◌&&◌, not, List, [], ◌∷◌, length, sym, refl, ap, ◌∙◌, subst, arith, Option, Some, None}
 use Rattle.std.specs.Prelude.{IsSome}
 use Rattle.std.proofs.lemmas.List.{length-append}
-use Rattle.std.proofs.lemmas.List.Concat.{flat_map-cons}
 use Rattle.refl_types.specs.declared.types.Key.{Key}
 use Rattle.refl_types.specs.declared.types.Mode.{Mode}
 use Rattle.refl_types.specs.declared.types.Mode.TheVariants.{Plain, Auth, Twamp}
@@ -20,6 +19,7 @@ use Rattle.replay_format.specs.declared.code.OpenAnswer.TheVariants as opens
 use Rattle.replay_format.specs.declared.code.SetAnswer.{SetAnswer}
 use Rattle.replay_format.specs.declared.code.SetAnswer.TheVariants as sets
 use Rattle.replay_format.specs.Records.{Item, Opens, Sets, Closes, Arrives, Lists, Opening, Setting, Datagram, spelling, spellings}
+use Rattle.replay_format.proofs.StreamFacts.{spellings-cons}
 use Rattle.replay_table.specs.Table.{Entry, Table, is_bound, has_clash, may_accept, with_entry, update, without, raised, configured}
 use Rattle.replay_table.specs.Outcomes.{lacks_key, open_answer_of, open_answer, opened_entry, after_opening, set_answer_of, set_answer, after_setting, session_of, judged_table, after_arrival, after, table_after}
 use Rattle.shared_replay.specs.Stands.{AreKeyed, AreWithin}
@@ -106,12 +106,7 @@ unfolding table_after
 all_keyed t [] keyed = keyed
 all_keyed t (r ∷ rs) keyed = all_keyed (after t r) rs (keyed_after t r keyed)
 
--- ---- one record more
-
-pub table_after-push : (t : Table) (records : List Item) (item : Item) → table_after t (records ++ item ∷ []) ≡ after (table_after t records) item
-unfolding table_after
-table_after-push t [] item = refl
-table_after-push t (r ∷ rs) item = table_after-push (after t r) rs item
+-- ---- how many there are
 
 some_octets : (item : Item) → 2 ≤ length (spelling item)
 some_octets (Opens o) = omega arith
@@ -126,7 +121,7 @@ twice [] = omega arith
 twice (r ∷ rs) =
     let rest = twice rs in
     let one = some_octets r in
-    let whole = ap length (flat_map-cons spelling r rs) in
+    let whole = ap length (spellings-cons r rs) in
     omega (arith, rest, one, whole, length-append (spelling r) (spellings rs))
 
 pub few_records : (records : List Item) → AreWithin records → length records ≤ 2 ^ 29

@@ -15,6 +15,7 @@ use Rattle.session_rule.specs.declared.seats.Seat.{Seat}
 use Rattle.session_rule.specs.Seats.{desk_steps, joined_parts}
 use Rattle.session_desk.specs.Book.{Book, steps_of}
 use Rattle.session_desk.specs.Parting.{first_book}
+use Rattle.replay_table.proofs.StreamFacts.{table_after-push}
 use Rattle.shared_replay.specs.Following.{Follows}
 use Rattle.session_desk.specs.Fits.{reserves_in}
 use Rattle.replay_format.specs.declared.code.OpenAnswer.{OpenAnswer}
@@ -28,7 +29,7 @@ use Rattle.replay_table.specs.Table.{Entry, Table, empty_table}
 use Rattle.replay_table.specs.Outcomes.{open_answer, after_opening, set_answer, after_setting, session_of, judged_table, after_arrival, answer, after, table_after}
 use Rattle.replay_table.specs.Apart.{AreApart}
 use Rattle.shared_replay.specs.Stands.{HoldsTable, Kept, AreWithin, Stands, HasArrived, HasOpened, HasSet, HasClosed, IsAnswered}
-use Rattle.shared_replay.proofs.RecordFacts.{all_keyed, table_after-push, few_records}
+use Rattle.shared_replay.proofs.RecordFacts.{all_keyed, few_records}
 
 abbrev pub at : List Item → Table
 at records = table_after empty_table records

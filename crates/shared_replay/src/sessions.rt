@@ -9,8 +9,8 @@ ghost use Rattle.shared_replay.specs.Stands.{Stands, AreWithin, IsAnswered};
 use crate::changing::{close, set};
 use crate::opening::open;
 use crate::turning::arrive;
-use refl_types::{Address, LocalAddr, Memory, Meta};
-use replay_format::{Outcome, Record, write_outcome};
+use refl_types::{LocalAddr, Memory, Meta};
+use replay_format::{NO_LOCAL, Outcome, Record, write_outcome};
 use replay_table::law_apart;
 use session_desk::DeskBook;
 use session_rule::{Table, TableSize, open_table};
@@ -30,12 +30,6 @@ const SIZE: TableSize = TableSize {
     slots: 4096,
     rows: 1024,
     workers: 1,
-};
-
-/// What stands in the places of local addresses that are free.
-const NO_LOCAL: LocalAddr = LocalAddr {
-    address: Address::V4([0; 4]),
-    port: 0,
 };
 
 /// The shared table with its book, the rows that its worker has read, and the reflector's own addresses.

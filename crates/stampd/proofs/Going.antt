@@ -2,7 +2,6 @@
 use Rattle.std.proofs.Common.{◌≡◌, ℕ, ◌+◌, ◌^◌, ◌<◌, ◌≤◌, inl, inr, List, [], ◌∷◌, ◌++◌, length, take, drop, Option, Some, None, refl, sym, ap, subst, ◌∙◌, append_assoc, arith}
 use Rattle.std.specs.Prelude.{IfSome}
 use Rattle.std.proofs.lemmas.List.{append-nil, length-append, nil_from_length}
-use Rattle.std.proofs.lemmas.List.Concat.{flat_map-cons}
 use Rattle.std.proofs.Math.Seq.{take-append-add}
 use Rattle.std.specs.Io.KnownBytes.{Appends, Consumes, Keeps, IsAtEnd}
 use Rattle.port_io.specs.Outside.{AppendsFront}
@@ -12,25 +11,14 @@ use Rattle.replay_format.specs.View.{IsFront, IsBegun, IsForeign}
 use Rattle.replay_format.specs.Answers.{Left, answer_octets}
 use Rattle.replay_format.proofs.RecordFacts.{one_front}
 use Rattle.replay_format.proofs.Formats.{item_obeys, spelling_short}
-use Rattle.replay_table.specs.Table.{Table, empty_table}
-use Rattle.replay_table.specs.Outcomes.{answer, after, answers, answers_from, table_after}
+use Rattle.replay_format.proofs.StreamFacts.{spellings-cons, spellings-push}
+use Rattle.replay_table.specs.Table.{empty_table}
+use Rattle.replay_table.specs.Outcomes.{answer, answers, answers_from, table_after}
+use Rattle.replay_table.proofs.StreamFacts.{answers_from-push}
 use Rattle.shared_replay.specs.Stands.{Kept, Stands}
 use Rattle.stampd.specs.Replay.{IsStream, IsNoStream, Takes, LeavesGrammar, answers_and_offset, IsDone, HasLeft, WasCutOff, WasStopped}
 
 -- ---- one record more
-
-answers_from-push : (t : Table) (records : List Item) (item : Item) → answers_from t (records ++ item ∷ []) ≡ answers_from t records ++ answer_octets (answer (table_after t records) item)
-unfolding answers_from table_after
-answers_from-push t [] item = append-nil (answer_octets (answer t item))
-answers_from-push t (r ∷ rs) item = ap (λ (l : List ℕ). answer_octets (answer t r) ++ l) (answers_from-push (after t r) rs item) ∙ sym (append_assoc (answer_octets (answer t r)) (answers_from (after t r) rs) (answer_octets (answer (table_after (after t r) rs) item)))
-
-spellings-cons : (r : Item) (rs : List Item) → spellings (r ∷ rs) ≡ spelling r ++ spellings rs
-spellings-cons r rs = flat_map-cons spelling r rs
-
-spellings-push : (records : List Item) (item : Item) → spellings (records ++ item ∷ []) ≡ spellings records ++ spelling item
-spellings-push [] item = spellings-cons item [] ∙ append-nil (spelling item)
-spellings-push (r ∷ rs) item =
-    spellings-cons r (rs ++ item ∷ []) ∙ ap (λ (l : List ℕ). spelling r ++ l) (spellings-push rs item) ∙ sym (append_assoc (spelling r) (spellings rs) (spelling item)) ∙ ap (λ (l : List ℕ). l ++ spelling item) (sym (spellings-cons r rs))
 
 AllFit-push : (records : List Item) (item : Item) → AllFit records → Fits item → AllFit (records ++ item ∷ [])
 AllFit-push [] item all one = (one, tt)

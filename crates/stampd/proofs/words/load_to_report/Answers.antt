@@ -1,4 +1,4 @@
-use Rattle.std.proofs.Common.{List, ℕ, [], ◌∷◌, map, string_bytes, codes, bytes_eq, sym, ap, ◌∙◌, arith}
+use Rattle.std.proofs.Common.{List, ℕ, [], ◌∷◌, map, string_bytes, codes, sym, ap, ◌∙◌, arith}
 use Rattle.std.proofs.lemmas.Bool.{not-false}
 use Rattle.std.proofs.lemmas.Slice.Eq.{bytes_eq-Decides}
 use Rattle.stampd.proofs.Loads.{three_elements, load_of}
