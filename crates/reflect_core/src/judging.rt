@@ -1,6 +1,6 @@
 //! Whether a datagram of a session is reflected (RFC 8762, section 4.3; RFC 9503, section 4.1.1).
 
-ghost use Rattle.std.specs.Prelude.{◌≡◌, ◌≤◌, true, IsSome, length};
+ghost use Rattle.std.specs.Prelude.{◌≡◌, ◌≤◌, true, false, IsSome, length};
 ghost use Rattle.refl_types.specs.HmacKey.{HasHmacKey};
 ghost use Rattle.refl_types.specs.declared.types.Mode.TheVariants.{Twamp};
 ghost use Rattle.reflect_core.specs.Judgement.{IsUsualPlain, judgement, judged_length, judged_auth, judged_base, judged_tail};
@@ -11,7 +11,7 @@ use keyed_config::KeyedConfig;
 use refl_types::{Config, Extra, Key, Mode, Silent};
 use stamp_auth::{AUTH_LEN, AuthFault, read_auth_keyed};
 use stamp_packet::PLAIN_LEN;
-use tlv_actions::no_reply;
+use tlv_actions::{may_redirect, no_reply};
 use twamp_test::TEST_LEN;
 
 /// An extra that doesn't matter where a datagram is judged.
@@ -69,6 +69,19 @@ fn judge_tail(mode: Mode, config: &KeyedConfig, octets: &[u8], at: usize) -> Jud
     }
 }
 
+/// Whether a session is of mode Plain, under a configuration with which no tail may say from where and to whom its reply is
+/// sent.
+#[inline(always)]
+pub fn is_usual_plain(mode: Mode, config: &KeyedConfig) -> bool
+    ensures yes { result ≡ true → IsUsualPlain mode config.now }
+    ensures no { result ≡ false → ¬ IsUsualPlain mode config.now }
+{
+    match mode {
+        Mode::Plain => !may_redirect(config.config()),
+        Mode::Auth | Mode::Twamp => false,
+    }
+}
+
 impl Session<'_> {
     /// Whether the base packet of a datagram of the session is one: not where it is shorter than that of the session's
     /// mode, and in mode Auth not where its HMAC is another.
@@ -106,17 +119,6 @@ impl Session<'_> {
         ensures { result ≡ judgement self.now.key.now.mode self.now.config.now octets.now }
     {
         judge_length(octets, TEST_LEN)
-    }
-
-    /// Whether the session is of mode Plain, and no tail of its datagrams may say from where and to whom the reply is sent.
-    #[inline(always)]
-    pub fn is_usual_plain(&self) -> bool
-        ensures yes { result ≡ true → IsUsualPlain self.now.key.now.mode self.now.config.now }
-    {
-        match self.key.mode {
-            Mode::Plain => !self.may_redirect(),
-            Mode::Auth | Mode::Twamp => false,
-        }
     }
 
     /// Judges a datagram as `judge` does, where `is_usual_plain` is true.
