@@ -6,7 +6,7 @@ use std::sync::Arc;
 use std::sync::atomic::{AtomicU64, Ordering};
 use std::thread;
 
-/// How often an object looks whether its turn has come before it goes on all the same.
+/// How often an object looks whether its turn has come before it takes this turn and all others at once.
 const LOOKS: u32 = 10_000_000;
 
 /// How much of the order is over.
@@ -63,5 +63,6 @@ impl Turns {
             }
             thread::yield_now();
         }
+        self.places.clear();
     }
 }

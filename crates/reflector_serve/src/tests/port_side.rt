@@ -1,11 +1,8 @@
 //! The datagrams of a port, each at its place in an order, and what they are answered.
 
-ghost use Rattle.std.specs.Prelude.{◌≡◌, All, OnOk, OnErr};
-ghost use Rattle.port_io.specs.Outside.{Rises};
-ghost use Rattle.net_io.specs.ScriptPort.{IsWhole};
-
+use super::Script;
 use super::order::{Order, Turns};
-use net_io::{Got, Port, PortDeed, PortItem, ScriptPort};
+use net_io::{Got, Port, PortDeed, ScriptPort};
 use port_io::Failed;
 use refl_types::{Endpoint, LocalAddr, Meta};
 use std::alloc::Global;
@@ -16,10 +13,9 @@ use std::process::Abort;
 pub struct PortSide {
     alloc: Global,
     places: Vec<u64>,
-    items: Vec<PortItem>,
+    script: Script,
     moments: Vec<u64>,
     deeds: Vec<(PortDeed, Vec<u8>)>,
-    ghost whole: { All IsWhole items.items },
 }
 
 impl PortSide {
@@ -27,7 +23,7 @@ impl PortSide {
         PortSide {
             alloc,
             places: Vec::new(alloc),
-            items: Vec::new(alloc),
+            script: Script::new(alloc),
             moments: Vec::new(alloc),
             deeds: Vec::new(alloc),
         }
@@ -44,22 +40,18 @@ impl PortSide {
         self.does(rt, PortDeed::Read(moment), b"");
     }
 
-    /// A datagram that came at moment 0.
+    /// A datagram that came at second 1.
     pub fn takes(&mut self, rt: &impl Abort, place: u64, peer: &Endpoint, octets: &[u8]) {
-        assert!(rt; octets.len() <= 65_507);
         let meta = Meta {
             local: 0,
             peer: *peer,
             len: octets.len(),
             ttl: None,
-            arrival: 0,
+            arrival: 1_000_000_000,
         };
         self.does(rt, PortDeed::Took(meta), octets);
-        let octets = Vec::from_slice(self.alloc, octets).expect(rt, "octets");
         self.places.push(place).expect(rt, "room");
-        self.items
-            .push(PortItem::Datagram { meta, octets })
-            .expect(rt, "room");
+        self.script.give(rt, 0, peer, octets);
     }
 
     /// A reply at this moment.
@@ -74,11 +66,11 @@ impl PortSide {
         let PortSide {
             alloc,
             places,
-            items,
+            script,
             moments,
             deeds,
-            ..
         } = self;
+        let Script { items, .. } = script;
         let port = ScriptPort::make(
             alloc,
             items,
