@@ -1,5 +1,7 @@
 //! Clients of TWAMP-Control in a run: their messages one by one, their sessions, and their ends.
 
+ghost use Rattle.std.specs.Prelude.{◌<◌};
+
 use super::messages::{
     START_ACK, acceptance, greeting, refusal, request, server_start, set_up, start, stop,
 };

@@ -1,6 +1,8 @@
 //! The messages of a TWAMP-Control client, and those that answer it (RFC 5357, section 3; RFC 4656, section 3). They are
 //! written out from the tables of the standards.
 
+ghost use Rattle.std.specs.Prelude.{◌<◌};
+
 /// Set-Up-Response, with the three bits of Mode that are served.
 pub fn set_up() -> [u8; 164] {
     let mut octets = [0; 164];
