@@ -4,6 +4,7 @@ ghost use Rattle.std.specs.Prelude.{◌≡◌, ◌<◌, ◌∷◌};
 ghost use Rattle.refl_types.specs.Spelling.{family, address_octets};
 ghost use Rattle.session_key.specs.Placing.{fnv_from, place_of};
 
+use crate::words::address_fits;
 use refl_types::{Address, Endpoint};
 
 const FNV_OFFSET: u64 = 14695981039346656037;
@@ -31,15 +32,18 @@ fn fnv_ipv6(start: u64, octets: [u8; 16]) -> u64
     fnv_from(hash, &octets)
 }
 
-/// Takes in an address. The twelve zeros behind an IPv4 address are a part of their own, which becomes one multiplication.
+/// Takes in an address. An IPv4 address is taken as a number, which stays in a register; the twelve zeros behind it are a part of
+/// their own, which becomes one multiplication.
 #[inline(always)]
 fn fnv_address(start: u64, address: &Address) -> u64
     ensures { result ≡ fnv_from start (family address.now ∷ address_octets address.now) }
 {
+    address_fits(address);
     match address {
         Address::V4(octets) => {
+            let number = u32::from_be_bytes(*octets);
             let mut hash = fnv_from(start, &[4]);
-            hash = fnv_from(hash, octets);
+            hash = fnv_from(hash, &number.to_be_bytes());
             fnv_from(hash, &[0, 0, 0, 0, 0, 0, 0, 0, 0, 0, 0, 0])
         }
         Address::V6(octets) => fnv_ipv6(start, *octets),

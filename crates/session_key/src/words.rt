@@ -88,7 +88,7 @@ fn v6_fits(octets: &[u8; 16])
     octets_fit(octets);
 }
 
-fn address_fits(address: &Address)
+pub(crate) fn address_fits(address: &Address)
     ensures { FitsAddress address.now }
 {
     match address {

@@ -2,7 +2,7 @@
 
 ghost use Rattle.std.specs.Prelude.{◌≡◌, ℕ, ◌<◌, ◌≤◌, true, []};
 ghost use Rattle.session_world.specs.Sizes.{worker_limit, IsWithinLimits};
-ghost use Rattle.session_world.specs.Words.{count_of_words};
+ghost use Rattle.session_world.specs.Words.{announced_at, count_of_words};
 ghost use Rattle.session_rule.specs.Splitting.{SaysWhoIsSplit};
 
 use crate::view::{OneSchedule, View};
@@ -17,7 +17,10 @@ pub(crate) const WORKERS: usize = WORKER_LIMIT as usize;
 pub struct Table {
     pub(crate) table: atomic_table::Table<(), View, TableSize, OneSchedule, Global>,
     pub(crate) size: TableSize,
+    /// Where the announcement of worker 1 lies. Each visit to a slot asks for one.
+    pub(crate) announcements: usize,
     ghost sized: { size ≡ table.shared.key },
+    ghost announced: { announcements ≡ announced_at size 1 },
     ghost wide: { table.shared.table_id.words ≡ count_of_words size },
     ghost limits: { IsWithinLimits size },
 }

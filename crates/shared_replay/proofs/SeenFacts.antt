@@ -1,6 +1,6 @@
 -- A worker's turn, by how far it goes: no session was found, or one that stays silent, or a draw came too late, or another row was
 -- drawn under, or the answer was written.
-use Rattle.std.proofs.Common.{◌≡◌, inl, inr, ⊎_elim, ℕ, List, [], ◌∷◌, ◌++◌, Option, Some, None, Ok, Err, sym, ap, subst, ◌∙◌}
+use Rattle.std.proofs.Common.{◌≡◌, inl, inr, ⊎_elim, ℕ, List, [], ◌∷◌, ◌++◌, Option, Some, None, Ok, Err, sym, ap, subst, ◌∙◌, ok_or}
 use Rattle.refl_types.specs.declared.types.Endpoint.{Endpoint}
 use Rattle.refl_types.specs.HmacKey.{HasHmacKey}
 use Rattle.reflect_core.specs.Judgement.{judgement}
@@ -19,7 +19,7 @@ use Rattle.replay_format.specs.declared.code.UnsentCause.{UnsentCause}
 use Rattle.replay_format.specs.declared.code.UnsentCause.TheVariants.{NoSession, Short, BadHmac, NoReply}
 use Rattle.replay_format.specs.Records.{Datagram}
 use Rattle.shared_replay.specs.Following.{query_for}
-use Rattle.shared_replay.specs.Turn.{IsSent, IsReflected, IsJudged, IsTurn, Turned}
+use Rattle.shared_replay.specs.Turn.{IsSent, IsReflected, IsJudged, MaybeSent, IsTurn, Turned}
 
 -- ---- kept rows
 
@@ -137,3 +137,8 @@ module _ (z : TableSize) (d : Datagram) (locals : List Endpoint) (before written
             sent = subst (λ (f : ConfigParts). IsSent locals s.key s.extra f n d before written len) y.1 sent;
           };
     }
+
+    -- the answer was written under the row drawn, if the datagram is reflected under that too
+    pub drawn_turn : (r : Option ℕ) → MaybeSent locals s.key s.extra e n d before written r → Turned z old new xs locals d before written (ok_or r NoSession)
+    drawn_turn (Some len) sent = replied_turn len sent.1
+    drawn_turn None kept = changed_turn kept.1 kept.0

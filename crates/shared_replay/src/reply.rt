@@ -113,10 +113,10 @@ pub fn write_drawn(
     Some(write_sent(&session, number, meta, t3, octets, locals, out))
 }
 
-/// The same, out of line and with copies, so that what is told of a datagram can stay in registers where its row stays.
+/// The same, out of line.
 #[cold]
 #[inline(never)]
-pub fn write_changed(
+fn write_apart(
     sight: Sight,
     row: u32,
     config: &KeyedConfig,
@@ -136,5 +136,30 @@ pub fn write_changed(
 {
     write_drawn(
         &sight, row, config, number, &meta, t3, octets, locals, out,
+    )
+}
+
+/// The same by `write_apart`. What is lent is copied for it here, and so stays in registers where rows don't change.
+#[inline(always)]
+pub fn write_changed(
+    sight: &Sight,
+    row: u32,
+    config: &KeyedConfig,
+    number: u32,
+    meta: &Meta,
+    t3: u64,
+    octets: &[u8],
+    locals: &[LocalAddr],
+    out: &mut [u8],
+) -> Option<usize>
+    requires same { sight.now.row ≡ row → IsReflected sight.now.key.mode config.now octets.now }
+    requires measured { meta.now.len ≡ length octets.now }
+    requires limit { length octets.now ≤ datagram_limit }
+    requires locals { length locals.now ≤ 16 }
+    requires room { ANSWER_ROOM ≤ length out.old }
+    ensures { MaybeSent locals.now sight.now.key sight.now.extra config.now number (datagram_of meta.now t3 octets.now) out.old out.new result }
+{
+    write_apart(
+        *sight, row, config, number, *meta, t3, octets, locals, out,
     )
 }

@@ -55,22 +55,20 @@ fn turn_usual(
         retire(table, worker);
         return Err(cause);
     }
-    let drawn = draw_by(table, worker, known, sight);
-    retire(table, worker);
-    let DrawnRow::Number { n, row } = drawn else {
+    let DrawnRow::Number { n, row } = draw_by(table, worker, known, sight) else {
+        retire(table, worker);
         return Err(UnsentCause::NoSession);
     };
     let config = known.config(row);
+    retire(table, worker);
     if row == sight.row {
         return Ok(write_usual(sight, config, n, meta, t3, octets, out));
     }
-    match write_changed(*sight, row, config, n, *meta, t3, octets, locals, out) {
-        Some(len) => Ok(len),
-        None => Err(UnsentCause::NoSession),
-    }
+    write_changed(sight, row, config, n, meta, t3, octets, locals, out)
+        .ok_or(UnsentCause::NoSession)
 }
 
-/// Answers a datagram of the session that was found, out of line and with copies.
+/// Answers a datagram of the session that was found, out of line.
 #[inline(never)]
 fn turn_apart(
     table: &Table,
@@ -104,10 +102,36 @@ fn turn_apart(
         return Err(UnsentCause::NoSession);
     };
     let config = known.config(row);
-    match write_drawn(&sight, row, config, n, &meta, t3, octets, locals, out) {
-        Some(len) => Ok(len),
-        None => Err(UnsentCause::NoSession),
-    }
+    write_drawn(&sight, row, config, n, &meta, t3, octets, locals, out)
+        .ok_or(UnsentCause::NoSession)
+}
+
+/// The same by `turn_apart`. What is lent is copied for it here, and so stays in registers where it isn't called.
+#[inline(always)]
+fn turn_other(
+    table: &Table,
+    worker: &mut WorkerSeat,
+    known: &mut KnownRows,
+    sight: &Sight,
+    meta: &Meta,
+    t3: u64,
+    octets: &[u8],
+    locals: &[LocalAddr],
+    out: &mut [u8],
+) -> Result<usize, UnsentCause>
+    requires same { IsWorkerOf table.now worker.old }
+    requires found { (old : Places) × HasFound (size_of table.now) old known.old (worker_steps worker.old) (datagram_of meta.now t3 octets.now) sight.now }
+    requires measured { meta.now.len ≡ length octets.now }
+    requires limit { length octets.now ≤ datagram_limit }
+    requires locals { length locals.now ≤ 16 }
+    requires room { ANSWER_ROOM ≤ length out.old }
+    ensures same { IsWorkerOf table.now worker.new }
+    ensures number { worker_number worker.new ≡ worker_number worker.old }
+    ensures turned { (old : Places) → HasFound (size_of table.now) old known.old (worker_steps worker.old) (datagram_of meta.now t3 octets.now) sight.now → Turned (size_of table.now) old known.new (worker_steps worker.new) locals.now (datagram_of meta.now t3 octets.now) out.old out.new result }
+{
+    turn_apart(
+        table, worker, known, *sight, *meta, t3, octets, locals, out,
+    )
 }
 
 /// Finds the session of a datagram, and where it is reflected draws a number and writes the answer, whose length it says.
@@ -141,8 +165,8 @@ fn turn(
             table, worker, known, &sight, meta, t3, octets, locals, out,
         );
     }
-    turn_apart(
-        table, worker, known, sight, *meta, t3, octets, locals, out,
+    turn_other(
+        table, worker, known, &sight, meta, t3, octets, locals, out,
     )
 }
 
