@@ -7,6 +7,7 @@ use super::port_side::PortSide;
 use super::{answered, run};
 use control_desk::{DeskEnd, DeskTally};
 use receive_worker::Tally;
+use std::process::Abort;
 
 /// A second, in nanoseconds.
 const SECOND: u64 = 1_000_000_000;
@@ -51,6 +52,12 @@ fn server_octets() -> [u8; 192] {
     octets
 }
 
+/// Octets from a place to another.
+fn part<'a>(rt: &impl Abort, octets: &'a [u8], from: usize, to: usize) -> &'a [u8] {
+    assert!(rt; from <= to && to <= octets.len());
+    &octets[from..to]
+}
+
 #[test]
 fn the_session_of_a_client_is_answered_from_its_start_to_its_timeout(rt: HostRuntime) {
     let alloc = rt.alloc();
@@ -59,17 +66,17 @@ fn the_session_of_a_client_is_answered_from_its_start_to_its_timeout(rt: HostRun
     let mut desk = DeskSide::new(&rt, alloc);
     let mut port = PortSide::new(alloc);
     port.tells(&rt, 0);
-    desk.opens_client(&rt, 0, 7, &server[..64]);
-    desk.gives(&rt, 1, 0, 7, &client[..164]);
-    desk.sends(&rt, 7, &server[64..112]);
-    desk.gives(&rt, 2, 5 * SECOND, 7, &client[164..276]);
-    desk.sends(&rt, 7, &server[112..160]);
+    desk.opens_client(&rt, 0, 7, part(&rt, &server, 0, 64));
+    desk.gives(&rt, 1, 0, 7, part(&rt, &client, 0, 164));
+    desk.sends(&rt, 7, part(&rt, &server, 64, 112));
+    desk.gives(&rt, 2, 5 * SECOND, 7, part(&rt, &client, 164, 276));
+    desk.sends(&rt, 7, part(&rt, &server, 112, 160));
     port.takes(&rt, 3, &from, &TWAMP);
-    desk.gives(&rt, 4, 5 * SECOND, 7, &client[276..308]);
-    desk.sends(&rt, 7, &server[160..]);
+    desk.gives(&rt, 4, 5 * SECOND, 7, part(&rt, &client, 276, 308));
+    desk.sends(&rt, 7, part(&rt, &server, 160, 192));
     port.takes(&rt, 5, &from, &TWAMP);
     port.sends(&rt, SENDING, &from, &twamp_reply(0));
-    desk.gives(&rt, 6, 7 * SECOND, 7, &client[308..]);
+    desk.gives(&rt, 6, 7 * SECOND, 7, part(&rt, &client, 308, 340));
     port.takes(&rt, 7, &from, &TWAMP);
     port.sends(&rt, SENDING, &from, &twamp_reply(1));
     desk.ticks(&rt, 8, 9 * SECOND - 1);
