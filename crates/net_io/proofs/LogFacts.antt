@@ -1,6 +1,6 @@
 -- A log whose octets stand in a row.
 use Rattle.std.proofs.Common.{◌≡◌, ℕ, zero, suc, ◌+◌, ◌-◌, ◌<◌, ◌≤◌, ◌⊎◌, inl, inr, List, [], ◌∷◌, ◌++◌, length, take, drop, get_or, Option, Some, None, Bool, true, false, refl, sym, ap, subst, ◌∙◌, arith}
-use Rattle.std.specs.Prelude.{sum_by, map, option_map, slice_get, cond, min, nat_lt, nat_le, ◌&&◌, if◌then◌else◌}
+use Rattle.std.specs.Prelude.{sum_by, map, option_map, slice_get, cond, min, nat_lt, nat_le, ◌&&◌}
 use Rattle.std.proofs.lemmas.List.{length-take-le, length-drop, take-append-le, drop-append-le, nil_from_length, drop-drop, map-append}
 use Rattle.std.proofs.Math.ListN.{drop_of_length-le}
 use Rattle.std.proofs.Math.Nat.{eq-or-lt_of_le}

@@ -1,5 +1,5 @@
 -- What a scripted port logs, and what it has left.
-use Rattle.std.proofs.Common.{◌≡◌, ℕ, List, [], ◌∷◌, drop, Option, Some, refl, sym, ap, subst, ◌∙◌}
+use Rattle.std.proofs.Common.{◌≡◌, ℕ, List, [], ◌∷◌, refl, subst}
 use Rattle.std.specs.Prelude.{map, option_map}
 use Rattle.net_io.specs.declared.port.Got.{Got}
 use Rattle.net_io.specs.declared.port.Got.TheVariants.{Datagram, Nothing, End}

@@ -1,8 +1,7 @@
 -- What a scripted port holds, and what each call leaves.
-use Rattle.std.specs.Prelude.{◌≡◌, ℕ, ◌≤◌, List, [], ◌∷◌, ◌++◌, length, drop, map, All, take, Option, option_map, Result, Ok, Err}
+use Rattle.std.specs.Prelude.{◌≡◌, ℕ, ◌≤◌, List, [], length, drop, map, take, Option, option_map, Result, Ok, Err}
 use Rattle.refl_types.specs.Limits.{datagram_limit}
 use Rattle.refl_types.specs.declared.types.Endpoint.{Endpoint}
-use Rattle.refl_types.specs.declared.types.Meta.{Meta}
 use Rattle.port_io.specs.declared.outside.Failed.{Failed}
 use Rattle.net_io.specs.declared.port.Got.{Got}
 use Rattle.net_io.specs.declared.port.Got.TheVariants as got

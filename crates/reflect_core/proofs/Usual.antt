@@ -1,11 +1,13 @@
 -- Where neither type of RFC 9503 is understood, a reply is as under no plan, between the usual ends.
-use Rattle.std.proofs.Common.{◌≡◌, ℕ, ◌+◌, ◌∙◌, Bool, true, false, if◌then◌else◌, ◌||◌, ◌&&◌, Option, None, List, [], ◌∷◌, ◌++◌, length, drop, refl, sym, ap}
+use Rattle.std.proofs.Common.{◌≡◌, ℕ, ◌+◌, ◌≤◌, ◌∙◌, Bool, true, false, if◌then◌else◌, ◌||◌, ◌&&◌, Option, None, List, [], ◌∷◌, ◌++◌, length, drop, refl, sym, ap}
 use Rattle.std.specs.Int.{w32, to_be_bytes}
 use Rattle.octet_format.specs.Octets.{field}
 use Rattle.refl_types.specs.declared.types.Mode.{Mode}
 use Rattle.refl_types.specs.declared.types.Mode.TheVariants.{Plain, Auth, Twamp}
 use Rattle.refl_types.specs.declared.outcome.Silent.TheVariants.{NoReply}
 use Rattle.refl_types.specs.declared.types.Endpoint.{Endpoint}
+use Rattle.refl_types.specs.declared.types.Extra.{Extra}
+use Rattle.refl_types.specs.declared.types.Key.{Key}
 use Rattle.refl_types.specs.declared.types.Meta.{Meta}
 use Rattle.refl_types.specs.declared.config.ConfigParts.{ConfigParts}
 use Rattle.refl_types.specs.Spelling.{block_octets}
@@ -30,8 +32,9 @@ use Rattle.reflect_core.specs.Judgement.{judged_length, judged_base, judged_tail
 use Rattle.reflect_core.specs.Arrived.{Arrived}
 use Rattle.reflect_core.specs.Base.{reply_base}
 use Rattle.reflect_core.specs.Ends.{has_intact_tail, usual_ends, planned_ends, plan_after, ends_after}
-use Rattle.reflect_core.specs.Tail.{processed, processed_reply, reply_by, tail_reply, tail_after}
-use Rattle.reflect_core.specs.Reflection.{plain_reflection, auth_reflection}
+use Rattle.reflect_core.specs.Tail.{processed, reply_by, tail_reply}
+use Rattle.reflect_core.specs.Reflection.{plain_reflection, auth_reflection, reflection, IsReply, WritesPlain}
+use Rattle.reflect_core.proofs.Modes.{plain_is, plain_ends, replied}
 
 -- ---- the TLVs of a reply don't tell its ends
 
@@ -124,3 +127,22 @@ judged_usual mode c octets neither = then_reflect (judged_base mode c octets) (j
 
 pub judged_test : (mode : Mode) (c : ConfigParts) (octets : List ℕ) → mode ≡ Twamp → judged_length 14 octets ≡ judgement mode c octets
 judged_test mode c octets e = then_reflect (judged_length 14 octets) Reflect refl ∙ ap (λ (m : Mode). judgement m c octets) (sym e)
+
+plain_base : (mode : Mode) (c : ConfigParts) (octets : List ℕ) → mode ≡ Plain → judged_length 44 octets ≡ judged_base mode c octets
+plain_base mode c octets e = rw e refl
+
+pub judged_usual_plain : (mode : Mode) (c : ConfigParts) (octets : List ℕ) → mode ≡ Plain → NeitherUnderstood c → judged_length 44 octets ≡ judgement mode c octets
+judged_usual_plain mode c octets e neither = plain_base mode c octets e ∙ judged_usual mode c octets neither
+
+-- ---- the reply in mode Plain
+
+pub replied_usual_plain : (k : Key) (x : Extra) (c : ConfigParts) (draw : Draw) (d : Arrived) (p : Plan) (old new : List ℕ) → k.mode ≡ Plain → NeitherUnderstood c → HasNoPlaces p
+    → length d.octets ≤ length old → length new ≡ length old → WritesPlain c p draw d old new
+    → IsReply (reflection k x c draw d) (record { from = d.meta.local; to = d.meta.peer; len = length d.octets }) old new
+replied_usual_plain k x c draw d p old new mode usual none room kept writes =
+    let n : ℕ = length d.octets in
+    let ends = ends_usual 44 Plain c d usual ∙ plain_ends k.mode c d mode in
+    replied (reflection k x c draw d) (record { from = d.meta.local; to = d.meta.peer; len = n }) (usual_ends d.meta) old new (plain_reflection c (plan_after 44 c d) draw d) n refl refl refl
+    (ap (λ (e : Ends). e.from) ends) (ap (λ (e : Ends). e.to) ends)
+    (writes ∙ ap (λ (o : List ℕ). o ++ drop n old) (plain_usual c draw d p usual none))
+    (plain_is k.mode x c draw d mode) kept room

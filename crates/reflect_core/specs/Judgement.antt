@@ -1,5 +1,5 @@
 -- Whether a datagram of a session is reflected (RFC 8762, section 4.3; RFC 9503, section 4.1.1; RFC 5357, section 4.2).
-use Rattle.std.specs.Prelude.{ℕ, ◌&&◌, List, length, drop, nat_lt, if◌then◌else◌}
+use Rattle.std.specs.Prelude.{◌≡◌, ℕ, ◌&&◌, false, List, length, drop, nat_lt, if◌then◌else◌}
 use Rattle.refl_types.specs.declared.types.Mode.{Mode}
 use Rattle.refl_types.specs.declared.types.Mode.TheVariants.{Plain, Auth, Twamp}
 use Rattle.refl_types.specs.declared.config.ConfigParts.{ConfigParts}
@@ -9,7 +9,7 @@ use Rattle.stamp_auth.specs.Request.{has_base_hmac}
 use Rattle.tlv_actions.specs.Planned.{no_reply}
 use Rattle.reflect_core.specs.declared.judging.Judged.{Judged}
 use Rattle.reflect_core.specs.declared.judging.Judged.TheVariants.{Reflect, Silent}
-use Rattle.reflect_core.specs.Ends.{has_intact_tail}
+use Rattle.reflect_core.specs.Ends.{has_intact_tail, may_redirect}
 
 abbrev pub judged_length : ℕ → List ℕ → Judged
 judged_length least octets = if nat_lt (length octets) least then Silent Short else Reflect
@@ -43,3 +43,7 @@ and_then Reflect tail = tail
 
 abbrev pub judgement : Mode → ConfigParts → List ℕ → Judged
 judgement mode c octets = and_then (judged_base mode c octets) (judged_behind mode c octets)
+
+-- a session of mode Plain under a configuration with which no tail may say from where and to whom its reply is sent
+abbrev pub IsUsualPlain : Mode → ConfigParts → Type 0
+IsUsualPlain mode c = (mode ≡ Plain) × (may_redirect c ≡ false)

@@ -1,9 +1,9 @@
 //! Whether a datagram of a session is reflected (RFC 8762, section 4.3; RFC 9503, section 4.1.1).
 
-ghost use Rattle.std.specs.Prelude.{◌≡◌, ◌≤◌, IsSome, length};
+ghost use Rattle.std.specs.Prelude.{◌≡◌, ◌≤◌, true, false, IsSome, length};
 ghost use Rattle.refl_types.specs.HmacKey.{HasHmacKey};
 ghost use Rattle.refl_types.specs.declared.types.Mode.TheVariants.{Twamp};
-ghost use Rattle.reflect_core.specs.Judgement.{judgement, judged_length, judged_auth, judged_base, judged_tail};
+ghost use Rattle.reflect_core.specs.Judgement.{IsUsualPlain, judgement, judged_length, judged_auth, judged_base, judged_tail};
 
 use crate::session::Session;
 use crate::tails::has_intact_tail;
@@ -11,7 +11,7 @@ use keyed_config::KeyedConfig;
 use refl_types::{Config, Extra, Key, Mode, Silent};
 use stamp_auth::{AUTH_LEN, AuthFault, read_auth_keyed};
 use stamp_packet::PLAIN_LEN;
-use tlv_actions::no_reply;
+use tlv_actions::{may_redirect, no_reply};
 use twamp_test::TEST_LEN;
 
 /// An extra that doesn't matter where a datagram is judged.
@@ -29,7 +29,7 @@ pub enum Judged {
     Silent(Silent),
 }
 
-#[inline]
+#[inline(always)]
 fn judge_length(octets: &[u8], least: usize) -> Judged
     ensures { result ≡ judged_length least octets.now }
 {
@@ -66,6 +66,19 @@ fn judge_tail(mode: Mode, config: &KeyedConfig, octets: &[u8], at: usize) -> Jud
         Judged::Silent(Silent::NoReply)
     } else {
         Judged::Reflect
+    }
+}
+
+/// Whether a session is of mode Plain, under a configuration with which no tail may say from where and to whom its reply is
+/// sent.
+#[inline(always)]
+pub fn is_usual_plain(mode: Mode, config: &KeyedConfig) -> bool
+    ensures yes { result ≡ true → IsUsualPlain mode config.now }
+    ensures no { result ≡ false → ¬ IsUsualPlain mode config.now }
+{
+    match mode {
+        Mode::Plain => !may_redirect(config.config()),
+        Mode::Auth | Mode::Twamp => false,
     }
 }
 
@@ -106,6 +119,15 @@ impl Session<'_> {
         ensures { result ≡ judgement self.now.key.now.mode self.now.config.now octets.now }
     {
         judge_length(octets, TEST_LEN)
+    }
+
+    /// Judges a datagram as `judge` does, where `is_usual_plain` is true.
+    #[inline(always)]
+    pub fn judge_usual_plain(&self, octets: &[u8]) -> Judged
+        requires { IsUsualPlain self.now.key.now.mode self.now.config.now }
+        ensures { result ≡ judgement self.now.key.now.mode self.now.config.now octets.now }
+    {
+        judge_length(octets, PLAIN_LEN)
     }
 
     /// Whether a datagram is reflected, where its tail is asked only if it may say something.

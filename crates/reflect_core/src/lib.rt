@@ -11,6 +11,6 @@ mod tails;
 #[cfg(test)]
 mod tests;
 
-pub use judging::{Judged, judge};
+pub use judging::{Judged, is_usual_plain, judge};
 pub use reflecting::{Reply, reflect};
 pub use session::{Datagram, Draw, Session};

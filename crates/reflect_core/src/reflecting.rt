@@ -5,7 +5,7 @@ ghost use Rattle.refl_types.specs.HmacKey.{HasHmacKey};
 ghost use Rattle.refl_types.specs.Limits.{datagram_limit};
 ghost use Rattle.refl_types.specs.declared.types.Mode.TheVariants.{Plain, Auth, Twamp};
 ghost use Rattle.reflect_core.specs.declared.judging.Judged.TheVariants.{Reflect};
-ghost use Rattle.reflect_core.specs.Judgement.{judgement};
+ghost use Rattle.reflect_core.specs.Judgement.{IsUsualPlain, judgement};
 ghost use Rattle.reflect_core.specs.Arrived.{arrived};
 ghost use Rattle.reflect_core.specs.Ends.{has_intact_tail, may_redirect, plan_after};
 ghost use Rattle.reflect_core.specs.Reflection.{WritesPlain, WritesAuth, WritesTest, reflection, IsReply};
@@ -176,6 +176,23 @@ impl Session<'_> {
         may_redirect(self.config.config())
     }
 
+    /// Writes the reply as `reflect` does, where `is_usual_plain` is true. It has as many octets as the datagram, and is sent
+    /// from where that arrived to its sender, whatever the reflector's own addresses are.
+    #[inline(always)]
+    pub fn reflect_usual_plain(&self, meta: &Meta, octets: &[u8], draw: &Draw, out: &mut [u8])
+        requires usual { IsUsualPlain self.now.key.now.mode self.now.config.now }
+        requires judged { judgement self.now.key.now.mode self.now.config.now octets.now ≡ Reflect }
+        requires room { length octets.now ≤ length out.old }
+        ensures { (locals : List Endpoint) → IsReply (reflection self.now.key.now self.now.extra.now self.now.config.now draw.now (record { meta = meta.now; octets = octets.now; locals = locals })) (record { from = meta.now.local; to = meta.now.peer; len = length octets.now }) out.old out.new }
+    {
+        let datagram = Datagram {
+            meta,
+            octets,
+            locals: &[],
+        };
+        let _intact = reflect_plain(self.config, &NO_PLACES, draw, &datagram, out);
+    }
+
     /// Writes the reply as `reflect` does, where no tail may say from where and to whom it is sent, and says how many octets
     /// it has: in mode Twamp, and where `may_redirect` is false. It is sent from where the datagram arrived to its sender,
     /// whatever the reflector's own addresses are.
@@ -190,17 +207,19 @@ impl Session<'_> {
         ensures size { (self.now.key.now.mode ≡ Twamp → ⊥) → result ≡ length octets.now }
     {
         let config = self.config;
-        let datagram = Datagram {
-            meta,
-            octets,
-            locals: &[],
-        };
         match self.key.mode {
             Mode::Plain => {
-                let _intact = reflect_plain(config, &NO_PLACES, draw, &datagram, out);
+                self.reflect_usual_plain(meta, octets, draw, out);
                 octets.len()
             }
-            Mode::Twamp => reflect_test(self.extra, config, draw, &datagram, out),
+            Mode::Twamp => {
+                let datagram = Datagram {
+                    meta,
+                    octets,
+                    locals: &[],
+                };
+                reflect_test(self.extra, config, draw, &datagram, out)
+            }
             Mode::Auth => {
                 let (ttl, arrival) = (meta.ttl, meta.arrival);
                 let _intact = reflect_auth(config, &NO_PLACES, *draw, ttl, arrival, octets, out);

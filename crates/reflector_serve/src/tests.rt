@@ -1,6 +1,12 @@
 //! Runs over scripts, and over ports and a desk that wait for one another.
 
+mod changes;
+mod desk_side;
+mod ends;
 mod gates;
+mod order;
+mod packets;
+mod port_side;
 
 use crate::{Report, ServeFault, serve};
 use conf_text::read_conf;

@@ -110,6 +110,7 @@ impl DeskBook {
     }
 
     /// Splits a worker off: the least number from 1 on that isn't split off now. It needs no memory, and always succeeds.
+    #[inline(always)]
     pub fn split(&mut self, table: &Table) -> Result<WorkerSeat, Memory>
         requires same { IsBookOf table.now self.old }
         requires room { (j : ℕ) × (0 < j) × (j ≤ (size_of table.now).workers) × (is_split (steps_of self.old) j ≡ false) }
@@ -124,6 +125,7 @@ impl DeskBook {
     }
 
     /// Joins a worker: its part of its number's list ends, and the number may be split off again.
+    #[inline(always)]
     pub fn join(&mut self, table: &Table, worker: WorkerSeat)
         requires same { IsBookOf table.now self.old }
         requires worker { IsWorkerOf table.now worker }

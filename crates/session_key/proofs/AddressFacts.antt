@@ -1,5 +1,5 @@
 -- Addresses are compared as numbers.
-use Rattle.std.proofs.Common.{◌≡◌, ℕ, Bool, true, false, ◌&&◌, eqb, List, [], ◌++◌, ◌+◌, ◌≤◌, length, drop, refl, sym, ap, subst, ◌∙◌, inl, inr, arith}
+use Rattle.std.proofs.Common.{◌≡◌, ℕ, Bool, true, false, ◌&&◌, eqb, List, [], ◌++◌, ◌+◌, ◌≤◌, length, drop, refl, sym, ap, subst, ◌∙◌, inl, inr, arith, ◌*◌, ◌%◌, ◌^◌, ◌<◌, ◌∷◌, take, replicate}
 use Rattle.std.specs.Int.{w32, w64, to_be_bytes, from_be_bytes}
 use Rattle.std.proofs.lemmas.Bool.{eqb-true}
 use Rattle.std.proofs.lemmas.Bool.Decides.{eqb_tells}
@@ -67,3 +67,21 @@ is_not x y ne =
 
 pub front_other : (x y : ℕ) (t s : Bool) → (eqb x y && t) ≡ s → (x ≡ y → ⊥) → eqb x y ≡ s
 front_other x y t s e h = is_not x y h ∙ ap (λ (b : Bool). b && t) (sym (is_not x y h)) ∙ e
+
+-- ---- the words of an IPv4 address
+
+pub v4_first : (a : List ℕ) (n : ℕ) → length a ≡ 4 → n < 2 ^ 32 → n ≡ from_be_bytes w32 a → n * 4294967296 % 18446744073709551616 ≡ from_be_bytes w64 (take 8 (a ++ replicate 12 0))
+v4_first [] n l h e = cc
+v4_first (p ∷ []) n l h e = cc
+v4_first (p ∷ q ∷ []) n l h e = cc
+v4_first (p ∷ q ∷ r ∷ []) n l h e = cc
+v4_first (p ∷ q ∷ r ∷ s ∷ []) n l h e = omega (arith, h, e)
+v4_first (p ∷ q ∷ r ∷ s ∷ t ∷ a) n l h e = absurd (omega (arith, l))
+
+pub v4_second : (a : List ℕ) → length a ≡ 4 → 0 ≡ from_be_bytes w64 (drop 8 (a ++ replicate 12 0))
+v4_second [] l = cc
+v4_second (p ∷ []) l = cc
+v4_second (p ∷ q ∷ []) l = cc
+v4_second (p ∷ q ∷ r ∷ []) l = cc
+v4_second (p ∷ q ∷ r ∷ s ∷ []) l = refl
+v4_second (p ∷ q ∷ r ∷ s ∷ t ∷ a) l = absurd (omega (arith, l))

@@ -22,7 +22,7 @@ pub struct Query {
 }
 
 /// The number in the two octets from a place on, where both are there.
-#[inline]
+#[inline(always)]
 #[tactic(auto, unfolding(crate::specs::Matching::ssid_at))]
 fn ssid_at(at: usize, octets: &[u8]) -> Option<u16>
     requires { at < 2 ^ 32 }
@@ -83,7 +83,7 @@ fn has_ends(local: u16, peer: &Endpoint, key: &Key) -> bool
 
 impl Query {
     /// The query of a datagram.
-    #[inline]
+    #[inline(always)]
     #[tactic(auto, unfolding(crate::specs::Matching::query_of))]
     pub fn of(meta: &Meta, octets: &[u8]) -> Query
         ensures { result ≡ query_of meta.now.local meta.now.peer octets.now }

@@ -1,14 +1,17 @@
 //! A key and its extra in four words.
 
-ghost use Rattle.std.specs.Prelude.{◌≡◌, ◌<◌, ◌^◌, true};
+ghost use Rattle.std.specs.Prelude.{◌≡◌, ◌<◌, ◌^◌, take, drop, true};
+ghost use Rattle.std.specs.Int.{w64, from_be_bytes};
 ghost use Rattle.session_key.specs.Words.{is_v6, key_words, AreKeyWords, key_of_words, extra_of_words, address_of, mode_of, ends_word, extra_word};
 ghost use Rattle.octet_format.specs.Octets.{IsArray, IsBytes};
 ghost use Rattle.refl_types.specs.Keys.{is_sound};
-ghost use Rattle.refl_types.specs.Spelling.{mode_code, FitsAddress, FitsKey};
+ghost use Rattle.refl_types.specs.Spelling.{address_octets, mode_code, FitsAddress, FitsEndpoint, FitsKey};
 
 use byteorder::{BigEndian, ByteOrder};
+use octet_format::field8;
 use refl_types::{Address, Endpoint, Extra, Key, Mode};
 
+#[inline(always)]
 fn mode_code(mode: Mode) -> u64
     ensures value { result ≡ mode_code mode }
     ensures range { result < 3 }
@@ -30,6 +33,7 @@ fn mode_of(code: u64) -> Mode
     }
 }
 
+#[inline(always)]
 fn is_v6(address: &Address) -> bool
     ensures { result ≡ is_v6 address.now }
 {
@@ -49,6 +53,7 @@ fn address_of(first: u64, second: u64, is_v6: bool) -> Address
     }
 }
 
+#[inline(always)]
 fn ends_word(port: u16, ssid: u16, local: u16, mode: Mode, is_v6: bool) -> u64
     ensures { result ≡ ends_word port ssid local mode is_v6 }
 {
@@ -105,6 +110,38 @@ fn key_fits(key: &Key)
     address_fits(&key.peer.address);
 }
 
+/// The words of an address: an IPv4 address stands in the first four octets.
+#[inline(always)]
+fn address_words(address: &Address) -> (u64, u64)
+    ensures first { result.0 ≡ from_be_bytes w64 (take 8 (address_octets address.now)) }
+    ensures second { result.1 ≡ from_be_bytes w64 (drop 8 (address_octets address.now)) }
+    ensures fits { FitsAddress address.now }
+{
+    address_fits(address);
+    match address {
+        Address::V4(octets) => (u64::from(u32::from_be_bytes(*octets)) << 32, 0),
+        Address::V6(octets) => (
+            u64::from_be_bytes(field8(octets, 0)),
+            u64::from_be_bytes(field8(octets, 8)),
+        ),
+    }
+}
+
+/// The first three words of a key with these ends, in this mode and with this SSID.
+#[inline(always)]
+pub fn first_words(local: u16, peer: &Endpoint, mode: Mode, ssid: u16) -> (u64, u64, u64)
+    ensures first { result.0 ≡ from_be_bytes w64 (take 8 (address_octets peer.now.address)) }
+    ensures second { result.1 ≡ from_be_bytes w64 (drop 8 (address_octets peer.now.address)) }
+    ensures third { result.2 ≡ ends_word peer.now.port ssid local mode (is_v6 peer.now.address) }
+    ensures local_fits { local < 2 ^ 16 }
+    ensures peer_fits { FitsEndpoint peer.now }
+{
+    number_fits(peer.port);
+    let (first, second) = address_words(&peer.address);
+    let third = ends_word(peer.port, ssid, local, mode, is_v6(&peer.address));
+    (first, second, third)
+}
+
 /// The four words of a key and an extra.
 pub fn key_words(key: &Key, extra: &Extra) -> [u64; 4]
     ensures value { result ≡ key_words key.now extra.now }
@@ -114,14 +151,9 @@ pub fn key_words(key: &Key, extra: &Extra) -> [u64; 4]
 {
     key_fits(key);
     number_fits(extra.reflect);
-    let octets = key.peer.address.octets();
-    let is_v6 = is_v6(&key.peer.address);
-    [
-        BigEndian::read_u64(&octets),
-        BigEndian::read_u64(&octets[8..]),
-        ends_word(key.peer.port, key.ssid, key.local, key.mode, is_v6),
-        extra_word(extra.reflect, extra.symmetrical),
-    ]
+    let (first, second, third) = first_words(key.local, &key.peer, key.mode, key.ssid);
+    let fourth = extra_word(extra.reflect, extra.symmetrical);
+    [first, second, third, fourth]
 }
 
 /// The key and the extra of four words.

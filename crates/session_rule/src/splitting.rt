@@ -14,6 +14,7 @@ use session_world::Step;
 use std::marker::Brand;
 
 /// Splits a worker off: the least number from 1 on that isn't split off now. It needs no memory.
+#[inline(always)]
 pub fn split_worker(table: &Table, seat: &mut Seat) -> Result<WorkerSeat, Memory>
     requires same { IsDeskOf table.now seat.old }
     requires room { (j : ℕ) × (0 < j) × (j ≤ (size_of table.now).workers) × (is_split (desk_steps seat.old) j ≡ false) }
@@ -37,6 +38,7 @@ pub fn split_worker(table: &Table, seat: &mut Seat) -> Result<WorkerSeat, Memory
 
 impl Seat {
     /// The least number that isn't split off.
+    #[inline(always)]
     fn least_free(&self) -> u32
         requires { (j : ℕ) × (0 < j) × (j ≤ worker_limit) × (is_split (desk_steps self.now) j ≡ false) }
         ensures { IsLeastFree (desk_steps self.now) result × (result ≤ worker_limit) }
@@ -50,6 +52,7 @@ impl Seat {
 }
 
 /// Joins a worker: its part of its number's list ends, and the number may be split off again.
+#[inline(always)]
 pub fn join_worker(table: &Table, seat: &mut Seat, worker: WorkerSeat)
     requires same { IsDeskOf table.now seat.old }
     requires worker { IsWorkerOf table.now worker }

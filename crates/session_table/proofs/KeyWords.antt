@@ -6,11 +6,11 @@ use Rattle.refl_types.specs.declared.types.Mode.{Mode}
 use Rattle.refl_types.specs.declared.types.Mode.TheVariants.{Plain, Auth, Twamp}
 use Rattle.refl_types.specs.Keys.{is_sound_in}
 use Rattle.refl_types.specs.Same.{same_endpoint, SameIsEqual}
-use Rattle.refl_types.specs.Spelling.{flag, address_octets, FitsEndpoint, FitsSession}
+use Rattle.refl_types.specs.Spelling.{flag, address_octets, mode_code, FitsEndpoint, FitsSession}
 use Rattle.session_key.specs.Matching.{is_told, agrees, matches}
 use Rattle.session_key.specs.Words.{is_v6, ends_word, extra_word, key_words, AreKeyWords, key_of_words, extra_of_words}
 use Rattle.session_world.specs.Keys.{Query, Key, Extra}
-use Rattle.session_table.specs.Sought.{first_word, second_word, third_word, told_word, AreSought, IsTold}
+use Rattle.session_table.specs.Sought.{first_word, second_word, third_word, told_word, IsTold}
 use Rattle.session_table.proofs.BoolFacts.{true_ne_false, both, is_false, number_case}
 
 -- ---- the numbers of a third word
@@ -57,15 +57,6 @@ told_some : (q : Query) (m : Mode) (o : Option ℕ) (n : ℕ) → n ≡ told_wor
 told_some q m None n e other = absurd (other e)
 told_some q m (Some s) n e other = (s, refl, e)
 
-pub told_plain : (q : Query) (n : ℕ) → ((s : ℕ) → q.plain ≡ Some s → s < 2 ^ 16) → n ≡ told_word q Plain q.plain → ¬ (n ≡ third_word q Twamp 0) → IsTold q n Plain
-told_plain q n low e other = let t = told_some q Plain q.plain n e other in record {
-  ssid = t.0;
-  fits = low t.0 t.1;
-  zero = λ same. cc;
-  third_is = t.2;
-  told = ap (λ (o : Option ℕ). is_told o t.0) t.1 ∙ eq-eqb t.0 t.0 refl;
-}
-
 pub told_auth : (q : Query) (n : ℕ) → ((s : ℕ) → q.auth ≡ Some s → s < 2 ^ 16) → n ≡ told_word q Auth q.auth → ¬ (n ≡ third_word q Twamp 0) → IsTold q n Auth
 told_auth q n low e other = let t = told_some q Auth q.auth n e other in record {
   ssid = t.0;
@@ -74,9 +65,6 @@ told_auth q n low e other = let t = told_some q Auth q.auth n e other in record 
   third_is = t.2;
   told = ap (λ (o : Option ℕ). is_told o t.0) t.1 ∙ eq-eqb t.0 t.0 refl;
 }
-
-pub told_twamp : (q : Query) (n : ℕ) → n ≡ third_word q Twamp 0 → IsTold q n Twamp
-told_twamp q n e = record { ssid = 0; fits = omega arith; zero = λ same. refl; third_is = e; told = refl }
 
 -- ---- a session with the query's ends
 
@@ -122,20 +110,25 @@ pub third_is : (k : Key) (x : Extra) (words : List ℕ) → key_words k x ≡ wo
 unfolding key_words
 third_is k x words e = nth_word k x words 2 e
 
-told_is : (o : Option ℕ) (s : ℕ) → is_told o s ≡ true → o ≡ Some s
-told_is None s h = absurd (true_ne_false (sym h))
-told_is (Some n) s h = number_case n s
-    (λ (e : n ≡ s). ap (λ (i : ℕ). Some i) e)
-    (λ (e : ¬ (n ≡ s)). absurd (true_ne_false (sym h ∙ ne_eqb n s e)))
-
 pub number_is : (m n : ℕ) → (m == n) ≡ true → m ≡ n
 number_is m n h = number_case m n (λ (e : m ≡ n). e) (λ (e : ¬ (m ≡ n)). absurd (true_ne_false (sym h ∙ ne_eqb m n e)))
 
--- a third word that is none of the three is that of no session with an SSID that is told
-pub told_none : (q : Query) (first second plain auth twamp n : ℕ) → AreSought q first second plain auth twamp → ¬ (n ≡ twamp) → ¬ (n ≡ plain) → ¬ (n ≡ auth) → (m : Mode) → ¬ IsTold q n m
-told_none q first second plain auth twamp n are a b c Plain t = b (t.third_is ∙ sym (are.plain_is ∙ ap (told_word q Plain) (told_is q.plain t.ssid t.told)))
-told_none q first second plain auth twamp n are a b c Auth t = c (t.third_is ∙ sym (are.auth_is ∙ ap (told_word q Auth) (told_is q.auth t.ssid t.told)))
-told_none q first second plain auth twamp n are a b c Twamp t = a (t.third_is ∙ (ap (third_word q Twamp) (t.zero refl) ∙ sym are.twamp_is))
+-- ---- what a third word tells of the mode
+
+word_mode : (p s l k f : ℕ) → k < 3 → f < 2 → (p * 2 ^ 48 + s * 2 ^ 32 + l * 2 ^ 16 + k * 2 + f) / 2 % 4 ≡ k
+word_mode p s l k f hk hf = omega (arith, hk, hf)
+
+code_low : (m : Mode) → mode_code m < 3
+code_low Plain = omega arith
+code_low Auth = omega arith
+code_low Twamp = omega arith
+
+mode_told : (q : Query) (m : Mode) (ssid : ℕ) → third_word q m ssid / 2 % 4 ≡ mode_code m
+mode_told q m ssid = word_mode q.peer.port ssid q.local (mode_code m) (flag (is_v6 q.peer.address)) (code_low m) (flag_low (is_v6 q.peer.address))
+
+-- the word of mode Twamp, which stands where no SSID is told, tells that mode
+pub not_twamp : (q : Query) (n k : ℕ) → n / 2 % 4 ≡ k → k < 2 → ¬ (n ≡ third_word q Twamp 0)
+not_twamp q n k e low same = let two : n / 2 % 4 ≡ 2 = ap (λ (i : ℕ). i / 2 % 4) same ∙ mode_told q Twamp 0 in omega (arith, e, low, two)
 
 twamp_zero : (m : Mode) (s : ℕ) (x : Extra) → is_sound_in m s x ≡ true → m ≡ Twamp → s ≡ 0
 twamp_zero Plain s x h e = cc

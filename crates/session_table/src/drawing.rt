@@ -43,7 +43,7 @@ pub fn draw(table: &Table, seat: &mut WorkerSeat, look: &Look) -> Drawn
 }
 
 /// The same, but that the row's configuration is kept in `known`, and its words are loaded only where it wasn't.
-#[inline]
+#[inline(always)]
 pub fn draw_by(
     table: &Table,
     seat: &mut WorkerSeat,
@@ -72,6 +72,7 @@ pub fn draw_by(
 }
 
 /// Lets go of what the seat holds.
+#[inline(always)]
 pub fn retire(table: &Table, seat: &mut WorkerSeat)
     requires same { IsWorkerOf table.now seat.old }
     ensures seat { HasCome table.now seat.old seat.new (Retire ∷ worker_steps seat.old) }

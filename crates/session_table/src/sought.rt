@@ -1,6 +1,6 @@
 //! What a walk looks for, as words.
 
-ghost use Rattle.std.specs.Prelude.{◌≡◌, ℕ, ◌+◌, ◌-◌, ◌*◌, ◌<◌, ◌≤◌, ◌^◌, ◌==◌, ◌&&◌, true, false, IfSome, Some, None};
+ghost use Rattle.std.specs.Prelude.{◌≡◌, ℕ, ◌+◌, ◌-◌, ◌*◌, ◌/◌, ◌%◌, ◌<◌, ◌≤◌, ◌^◌, ◌==◌, ◌&&◌, true, false, IfSome, Some, None};
 ghost use Rattle.session_key.specs.Matching.{query_of, matches};
 ghost use Rattle.session_key.specs.Words.{AreKeyWords, key_of_words, extra_of_words};
 ghost use Rattle.refl_types.specs.Keys.{is_sound};
@@ -8,36 +8,31 @@ ghost use Rattle.refl_types.specs.declared.types.Mode.{Mode};
 ghost use Rattle.session_table.specs.Sought.{first_word, second_word, IsTold};
 
 use refl_types::{Extra, Key, Meta, Mode, law_same};
-use session_key::{Query, key_words, law_words};
+use session_key::{Query, first_words, law_words};
 use std::marker::Model;
 
-/// A query, and the words of the keys that it matches. Contracts see it as the query.
+/// A datagram's query, and the words of the keys that it matches in the modes that are met most. Contracts see it as the query.
 #[derive(Drop)]
-pub(crate) struct Sought {
-    query: Query,
+pub(crate) struct Sought<'a> {
+    meta: &'a Meta,
+    octets: &'a [u8],
     first: u64,
     second: u64,
     plain: u64,
-    auth: u64,
     twamp: u64,
 }
 
-impl Model for Sought {
+impl<'a> Model for Sought<'a> {
     ghost use Rattle.session_key.specs.declared.matching.Query.{Query};
+    ghost use Rattle.session_key.specs.Matching.{query_of};
     ghost use Rattle.session_table.specs.Sought.{AreSought};
 
     ghost Value = { Query };
 
-    ghost view = { λ s. s.query };
+    ghost view = { λ s. query_of s.meta.now.local s.meta.now.peer s.octets.now };
 
-    ghost invariant = { λ s. AreSought s.query s.first s.second s.plain s.auth s.twamp };
+    ghost invariant = { λ s. AreSought (query_of s.meta.now.local s.meta.now.peer s.octets.now) s.first s.second s.plain s.twamp };
 }
-
-/// What a session has that has agreed on nothing besides its key.
-const NO_EXTRA: Extra = Extra {
-    symmetrical: false,
-    reflect: 0,
-};
 
 /// The third word of a session in another mode than Twamp, with an SSID; or that of mode Twamp where there is none.
 #[inline(always)]
@@ -53,57 +48,66 @@ fn told(twamp: u64, less: u64, ssid: Option<u16>) -> u64
     }
 }
 
-impl Sought {
+impl<'a> Sought<'a> {
     /// The words for a datagram.
-    pub(crate) fn of(meta: &Meta, octets: &[u8]) -> Sought
+    #[inline(always)]
+    pub(crate) fn of(meta: &'a Meta, octets: &'a [u8]) -> Sought<'a>
         ensures { result ≡ query_of meta.now.local meta.now.peer octets.now }
     {
         let query = Query::of(meta, octets);
-        let key = Key {
-            local: query.local,
-            peer: query.peer,
-            mode: Mode::Twamp,
-            ssid: 0,
-        };
-        let words = key_words(&key, &NO_EXTRA);
-        let plain = told(words[2], 4, query.plain);
-        let auth = told(words[2], 2, query.auth);
+        let (first, second, twamp) = first_words(meta.local, &meta.peer, Mode::Twamp, 0);
+        let plain = told(twamp, 4, query.plain);
         Sought {
-            query,
-            first: words[0],
-            second: words[1],
+            meta,
+            octets,
+            first,
+            second,
             plain,
-            auth,
-            twamp: words[2],
+            twamp,
         }
     }
 
     /// What datagrams are compared by.
     #[inline(always)]
-    pub(crate) fn query(&self) -> &Query
-        ensures { result.now ≡ self.now }
+    pub(crate) fn query(&self) -> Query
+        ensures { result ≡ self.now }
     {
-        &self.query
+        Query::of(self.meta, self.octets)
     }
 
-    /// The mode of the session that has this third word and the query's SSID.
+    /// Mode Auth, where this third word is that of the session in it with the query's SSID. The word is worked out here, since
+    /// few sessions are authenticated.
+    #[inline(always)]
+    fn auth(&self, third: u64) -> Option<Mode>
+        requires { third / 2 % 4 ≡ 1 }
+        ensures some { IfSome result (IsTold self.now third) }
+        ensures none { result ≡ None → (m : Mode) → ¬ IsTold self.now third m }
+    {
+        let query = self.query();
+        if third == told(self.twamp, 2, query.auth) {
+            Some(Mode::Auth)
+        } else {
+            None
+        }
+    }
+
+    /// The mode of the session that has this third word and the query's SSID. The word itself tells which it may be.
+    #[inline(always)]
     fn mode(&self, third: u64) -> Option<Mode>
         ensures some { IfSome result (IsTold self.now third) }
         ensures none { result ≡ None → (m : Mode) → ¬ IsTold self.now third m }
     {
-        if third == self.twamp {
-            return Some(Mode::Twamp);
+        match third / 2 % 4 {
+            0 if third == self.plain => Some(Mode::Plain),
+            0 => None,
+            1 => self.auth(third),
+            _ if third == self.twamp => Some(Mode::Twamp),
+            _ => None,
         }
-        if third == self.plain {
-            return Some(Mode::Plain);
-        }
-        if third == self.auth {
-            return Some(Mode::Auth);
-        }
-        None
     }
 
     /// Whether the first two words are those of the query's sender.
+    #[inline(always)]
     fn has_address(&self, first: u64, second: u64) -> bool
         ensures { result ≡ (first == first_word self.now && second == second_word self.now) }
     {
@@ -111,6 +115,7 @@ impl Sought {
     }
 
     /// The key for which a slot's words stand, where the query matches it.
+    #[inline(always)]
     pub(crate) fn matched(&self, words: &[u64; 4]) -> Option<Key>
         requires { AreKeyWords words.now }
         ensures some { IfSome result (λ k. (k ≡ key_of_words words.now) × (matches self.now k ≡ true)) }
@@ -123,8 +128,8 @@ impl Sought {
             Some(mode) => {
                 if self.has_address(words[0], words[1]) {
                     Some(Key {
-                        local: self.query.local,
-                        peer: self.query.peer,
+                        local: self.meta.local,
+                        peer: self.meta.peer,
                         mode,
                         ssid: ((third >> 32) % (1 << 16)) as u16,
                     })
@@ -138,6 +143,7 @@ impl Sought {
 }
 
 /// The extra for which a slot's words stand.
+#[inline(always)]
 pub(crate) fn extra_of(words: &[u64; 4]) -> Extra
     requires { AreKeyWords words.now }
     ensures value { result ≡ extra_of_words words.now }

@@ -1,19 +1,21 @@
 -- The turn of the worker that is split off for one datagram (this project's own; RFC 8762, section 4.3). A row is named by its
 -- number; which configuration it stands for is a parameter.
-use Rattle.std.specs.Prelude.{◌≡◌, ◌⊎◌, ℕ, ◌%◌, ◌^◌, ◌≤◌, List, [], ◌∷◌, ◌++◌, length, drop, Result, Ok, Err}
+use Rattle.std.specs.Prelude.{◌≡◌, ◌⊎◌, ℕ, ◌%◌, ◌^◌, ◌≤◌, List, [], ◌∷◌, ◌++◌, length, drop, Option, Some, None, Result, Ok, Err}
 use Rattle.refl_types.specs.declared.types.Endpoint.{Endpoint}
 use Rattle.refl_types.specs.declared.types.Mode.{Mode}
 use Rattle.refl_types.specs.declared.outcome.Silent.{Silent}
 use Rattle.refl_types.specs.declared.outcome.Silent.TheVariants as silents
 use Rattle.refl_types.specs.HmacKey.{HasHmacKey}
 use Rattle.reflect_core.specs.Judgement.{judgement}
+use Rattle.reflect_core.specs.declared.judging.Judged.{Judged}
 use Rattle.reflect_core.specs.declared.judging.Judged.TheVariants as judged
 use Rattle.session_world.specs.declared.steps.TableSize.{TableSize}
 use Rattle.session_world.specs.declared.steps.Step.{Step}
 use Rattle.session_world.specs.Keys.{Key, Extra, ConfigParts}
 use Rattle.session_world.specs.Answers.{Answer, seen, drew, missed, late, worker_answers}
 use Rattle.session_world.specs.Rows.{ReadsRows}
-use Rattle.session_table.specs.Knowing.{Places, KeptAs}
+use Rattle.session_table.specs.declared.found.Sight.{Sight}
+use Rattle.session_table.specs.Knowing.{Places, KeptAs, SawKnown, StaysKnown}
 use Rattle.replay_format.specs.declared.code.UnsentCause.{UnsentCause}
 use Rattle.replay_format.specs.declared.code.UnsentCause.TheVariants.{NoSession, Short, BadHmac, NoReply}
 use Rattle.replay_format.specs.Records.{Datagram}
@@ -44,6 +46,14 @@ pub record IsSent (locals : List Endpoint) (k : Key) (x : Extra) (c : ConfigPart
 abbrev pub IsReflected : Mode → ConfigParts → List ℕ → Type 0
 IsReflected m c octets = (judgement m c octets ≡ judged.Reflect) × HasHmacKey m c
 
+-- what an answer tells of a judgement
+abbrev pub IsTold : Judged → Result (Unit {0}) UnsentCause → Type 0
+IsTold j (Ok u) = j ≡ judged.Reflect
+IsTold j (Err NoSession) = ⊥
+IsTold j (Err Short) = j ≡ judged.Silent silents.Short
+IsTold j (Err BadHmac) = j ≡ judged.Silent silents.BadHmac
+IsTold j (Err NoReply) = j ≡ judged.Silent silents.NoReply
+
 -- whether it is, and why not
 abbrev pub IsJudged : Mode → ConfigParts → List ℕ → Result (Unit {0}) UnsentCause → Type 0
 IsJudged m c octets (Ok u) = IsReflected m c octets
@@ -52,7 +62,18 @@ IsJudged m c octets (Err Short) = judgement m c octets ≡ judged.Silent silents
 IsJudged m c octets (Err BadHmac) = judgement m c octets ≡ judged.Silent silents.BadHmac
 IsJudged m c octets (Err NoReply) = judgement m c octets ≡ judged.Silent silents.NoReply
 
+-- whether it was answered under a key, extra, configuration and number, as it is reflected under them; else nothing was written
+abbrev pub MaybeSent : List Endpoint → Key → Extra → ConfigParts → ℕ → Datagram → List ℕ → List ℕ → Option ℕ → Type 0
+MaybeSent locals k x c number d before written (Some n) = IsReflected k.mode c d.octets × IsSent locals k x c number d before written n
+MaybeSent locals k x c number d before written None = (¬ IsReflected k.mode c d.octets) × (written ≡ before)
+
 -- ---- the turn
+
+-- A worker that had made no step has made these, and holds this session of the datagram. The rows that it kept as `old` it
+-- keeps as `known`
+pub record HasFound (z : TableSize) (old known : Places) (xs : List Step) (d : Datagram) (s : Sight) : Type 0 where
+  pub sees : SawKnown z old known [] xs (query_for d) s
+  pub stays : StaysKnown old known [] xs
 
 -- a session was seen, and nothing more was asked
 pub record HasSeen (xs : List (Answer ℕ)) (d : Datagram) : Type 0 where

@@ -2,7 +2,8 @@
 
 ghost use Rattle.std.specs.Prelude.{◌≡◌, true, false};
 ghost use Rattle.refl_types.specs.HmacKey.{HasHmacKey};
-ghost use Rattle.shared_replay.specs.Turn.{IsJudged, IsReflected};
+ghost use Rattle.reflect_core.specs.Judgement.{IsUsualPlain, judgement};
+ghost use Rattle.shared_replay.specs.Turn.{IsJudged, IsReflected, IsTold};
 
 use keyed_config::KeyedConfig;
 use refl_types::{Mode, Silent};
@@ -22,6 +23,19 @@ fn lacks_key(mode: &Mode, config: &KeyedConfig) -> bool
     }
 }
 
+/// The cause for which an answer tells that a datagram isn't reflected.
+#[inline(always)]
+fn told(judged: Judged) -> Result<(), UnsentCause>
+    ensures { IsTold judged result }
+{
+    match judged {
+        Judged::Reflect => Ok(()),
+        Judged::Silent(Silent::Short) => Err(UnsentCause::Short),
+        Judged::Silent(Silent::BadHmac) => Err(UnsentCause::BadHmac),
+        Judged::Silent(Silent::NoReply) => Err(UnsentCause::NoReply),
+    }
+}
+
 /// Whether a datagram of the session is reflected under a configuration, and why it isn't. A session of mode Auth without an
 /// HMAC key reflects nothing, as if it weren't there.
 #[inline(always)]
@@ -36,12 +50,21 @@ pub fn judge(sight: &Sight, config: &KeyedConfig, octets: &[u8]) -> Result<(), U
         extra: &sight.extra,
         config,
     };
-    match session.judge(octets) {
-        Judged::Reflect => Ok(()),
-        Judged::Silent(Silent::Short) => Err(UnsentCause::Short),
-        Judged::Silent(Silent::BadHmac) => Err(UnsentCause::BadHmac),
-        Judged::Silent(Silent::NoReply) => Err(UnsentCause::NoReply),
-    }
+    told(session.judge(octets))
+}
+
+/// The same, where `is_usual_plain` is true of the session under the configuration.
+#[inline(always)]
+pub fn judge_usual(sight: &Sight, config: &KeyedConfig, octets: &[u8]) -> Result<(), UnsentCause>
+    requires { IsUsualPlain sight.now.key.mode config.now }
+    ensures { IsJudged sight.now.key.mode config.now octets.now result }
+{
+    let session = Session {
+        key: &sight.key,
+        extra: &sight.extra,
+        config,
+    };
+    told(session.judge_usual_plain(octets))
 }
 
 /// Whether a datagram that was reflected under the row seen is so under the configuration of the row drawn. One row is one

@@ -1,5 +1,5 @@
 -- The cases of a reply's TLV.
-use Rattle.std.proofs.Common.{◌≡◌, ℕ, true, false, Bool, if◌then◌else◌, ◌&&◌, ◌||◌, not, List, length, take, subst, ◌∙◌, sym, ◌==◌, eqb, inl, inr, refl, ap}
+use Rattle.std.proofs.Common.{◌≡◌, ℕ, true, false, Bool, if◌then◌else◌, ◌&&◌, ◌||◌, not, List, length, take, subst, ◌∙◌, sym, ◌==◌, eqb, refl, ap}
 use Rattle.std.proofs.lemmas.Bool.{eqb-true, ne_eqb}
 use Rattle.refl_types.specs.declared.config.ConfigParts.{ConfigParts}
 use Rattle.tlv_chain.specs.Tlv.{Tlv, unrecognized, malformed}

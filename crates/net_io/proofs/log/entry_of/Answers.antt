@@ -1,4 +1,4 @@
-use Rattle.std.proofs.Common.{ℕ, List, Some, take, drop, ap, sym, ◌∙◌}
+use Rattle.std.proofs.Common.{ℕ, List, Some, ap, sym}
 use Rattle.net_io.proofs.LogFacts.{slice_get-entries_of}
 use Rattle.net_io.proofs.log.entry_of.Goals as goal
 

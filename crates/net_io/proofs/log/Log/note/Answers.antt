@@ -1,5 +1,4 @@
-use Rattle.std.proofs.Common.{◌≡◌, ◌<◌, ◌≤◌, ◌+◌, ◌-◌, ◌⊎◌, ℕ, List, Option, length, ap, arith, inl, inr}
-use Rattle.net_io.specs.Log.{LogState}
+use Rattle.std.proofs.Common.{◌≡◌, ◌<◌, ◌≤◌, ◌+◌, ◌-◌, ◌⊎◌, length, ap, arith, inl, inr}
 use Rattle.net_io.proofs.LogFacts.{told_more, told_full}
 use Rattle.net_io.proofs.log.Log.note.Goals as goal
 use Rattle.net_io.proofs.log.Log.note.Goals.{then-len-self-via-then-len-self, then-len-self-via-else-len-self+then-self-len}

@@ -1,4 +1,4 @@
-use Rattle.std.proofs.Common.{◌≡◌, ◌+◌, ◌≤◌, ◌∙◌, ℕ, List, [], length, take, drop, refl, ap, arith}
+use Rattle.std.proofs.Common.{◌≡◌, ◌+◌, ◌∙◌, ℕ, List, [], length, take, drop, refl, ap, arith}
 use Rattle.std.specs.Prelude.{map, min}
 use Rattle.net_io.specs.declared.script_desk.DeskDeed.TheVariants.{Gave, NextFailed}
 use Rattle.net_io.specs.declared.script_desk.DeskItem.{DeskItem}

@@ -1,4 +1,4 @@
-use Rattle.std.proofs.Common.{◌≡◌, ◌+◌, ◌≤◌, ◌∙◌, ℕ, List, [], length, drop, refl, ap, arith}
+use Rattle.std.proofs.Common.{◌≡◌, ◌+◌, ◌∙◌, ℕ, List, [], length, drop, refl, ap, arith}
 use Rattle.std.specs.Prelude.{map, min}
 use Rattle.net_io.specs.declared.script_port.PortDeed.TheVariants.{RecvFailed}
 use Rattle.net_io.specs.declared.script_port.PortItem.{PortItem}

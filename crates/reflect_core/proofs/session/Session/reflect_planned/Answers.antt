@@ -1,8 +1,8 @@
-use Rattle.std.proofs.Common.{◌≡◌, ◌++◌, ◌∙◌, Bool, if◌then◌else◌, List, ℕ, length, drop, ap, sym, refl, arith}
+use Rattle.std.proofs.Common.{◌≡◌, ◌++◌, ◌∙◌, Bool, if◌then◌else◌, length, drop, ap, refl, arith}
 use Rattle.refl_types.specs.declared.types.Mode.TheVariants.{Plain, Auth}
 use Rattle.tlv_actions.specs.declared.facts.Plan.{Plan}
 use Rattle.reflect_core.specs.declared.ends.Ends.{Ends}
-use Rattle.reflect_core.specs.Arrived.{Arrived, arrived}
+use Rattle.reflect_core.specs.Arrived.{Arrived}
 use Rattle.reflect_core.specs.Ends.{has_intact_tail, usual_ends, planned_ends, plan_after, ends_after}
 use Rattle.reflect_core.specs.Reflection.{plain_reflection, auth_reflection, test_reflection, reflection}
 use Rattle.reflect_core.proofs.Modes.{plain_is, auth_is, test_is, plain_ends, auth_ends, test_ends, replied}

@@ -4,30 +4,13 @@ use Rattle.reflect_core.specs.declared.ends.Ends.{Ends}
 use Rattle.reflect_core.specs.declared.reflecting.Reply.{Reply}
 use Rattle.reflect_core.specs.Arrived.{Arrived}
 use Rattle.reflect_core.specs.Ends.{usual_ends, plan_after}
-use Rattle.reflect_core.specs.Reflection.{plain_reflection, auth_reflection, test_reflection, reflection}
-use Rattle.reflect_core.proofs.Modes.{plain_is, auth_is, test_is, plain_ends, auth_ends, test_ends, replied}
-use Rattle.reflect_core.proofs.Usual.{HasNoPlaces, plain_usual, auth_usual, ends_usual}
+use Rattle.reflect_core.specs.Reflection.{auth_reflection, test_reflection, reflection}
+use Rattle.reflect_core.proofs.Modes.{auth_is, test_is, auth_ends, test_ends, replied}
+use Rattle.reflect_core.proofs.Usual.{HasNoPlaces, auth_usual, ends_usual}
 use Rattle.reflect_core.proofs.session.Session.reflect_usual.Goals as goal
 
-pub returns-in-Plain-clause-reply : goal.returns-in-Plain-clause-reply
-returns-in-Plain-clause-reply c = λ locals.
-    let k = c.args.self.now.key.now in
-    let x = c.args.self.now.extra.now in
-    let config = c.args.self.now.config.now in
-    let draw = c.args.draw.now in
-    let m = c.args.meta.now in
-    let d : Arrived = record { meta = m; octets = c.args.octets.now; locals = locals } in
-    let old = c.args.out.now in
-    let usual = c.requires.usual (λ e. let x : Plain ≡ Twamp = sym c.in-Plain.is ∙ e in cc) in
-    let call = c.reflect_plain-intact in
-    let n : ℕ = length d.octets in
-    let reply : Reply = record { from = m.local; to = m.peer; len = n } in
-    let ends = ends_usual 44 Plain config d usual ∙ plain_ends k.mode config d c.in-Plain.is in
-    let none : HasNoPlaces _ = record { nine = refl; own_at = refl; path_at = refl } in
-    replied (reflection k x config draw d) reply (usual_ends m) old call.new.out (plain_reflection config (plan_after 44 config d) draw d) n refl refl refl
-    (ap (λ (e : Ends). e.from) ends) (ap (λ (e : Ends). e.to) ends)
-    (call.ensures.octets ∙ ap (λ (o : List ℕ). o ++ drop n old) (plain_usual config draw d _ usual none))
-    (plain_is k.mode x config draw d c.in-Plain.is) (omega arith) (omega arith)
+pub reflect_usual_plain-requires-clause-usual : goal.reflect_usual_plain-requires-clause-usual
+reflect_usual_plain-requires-clause-usual c = (c.in-Plain.is, c.requires.usual (λ e. let x : Plain ≡ Twamp = sym c.in-Plain.is ∙ e in cc))
 
 pub returns-in-Auth-clause-reply : goal.returns-in-Auth-clause-reply
 returns-in-Auth-clause-reply c = λ locals.

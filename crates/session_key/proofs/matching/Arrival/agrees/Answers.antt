@@ -1,4 +1,4 @@
-use Rattle.std.proofs.Common.{◌≡◌, ◌∙◌, ℕ, eqb, ap, arith}
+use Rattle.std.proofs.Common.{◌∙◌, ℕ, eqb, ap, arith}
 use Rattle.session_key.proofs.ArrivalFacts.{plain_agrees, auth_agrees}
 use Rattle.session_key.proofs.matching.Arrival.agrees.Goals as goal
 

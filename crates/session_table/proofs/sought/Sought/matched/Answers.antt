@@ -1,6 +1,6 @@
 use Rattle.std.proofs.Common.{◌≡◌, ℕ, ◌/◌, ◌%◌, ◌^◌, ◌<◌, ◌==◌, true, sym, refl, ◌∙◌, subst, eq-eqb, get_or}
 use Rattle.refl_types.specs.Spelling.{FitsEndpoint}
-use Rattle.session_key.specs.Matching.{matches}
+use Rattle.session_key.specs.Matching.{matches, query_of}
 use Rattle.session_key.specs.Words.{key_of_words}
 use Rattle.session_world.specs.Keys.{Query}
 use Rattle.session_table.specs.Sought.{first_word, second_word}
@@ -14,6 +14,7 @@ returns-else-has_address-clause-none c e = let words = c.args.words.now in let q
     (λ h. true_ne_false (sym (c.has_address.ensures ∙ and_i (get_or words 0 0 == first_word q) (get_or words 1 0 == second_word q) (eq-eqb (get_or words 0 0) (first_word q) h.0) (eq-eqb (get_or words 1 0) (second_word q) h.1)) ∙ c.if-has_address.false))
 
 pub returns-then-has_address-clause-some : goal.returns-then-has_address-clause-some
+unfolding query_of
 returns-then-has_address-clause-some c = let words = c.args.words.now in let q : Query = c.args.self.now in let w = c.law_words.ensures in let n : ℕ = get_or words 2 0 / 2 ^ 32 % 2 ^ 16 in
     let ends = both (get_or words 0 0 == first_word q) (get_or words 1 0 == second_word q) (sym c.has_address.ensures ∙ c.if-has_address.true) in
     subst (λ (p : Query). (key_for p c.in-Some.mode n ≡ key_of_words words) × (matches q (key_for p c.in-Some.mode n) ≡ true)) (sym c.self.view_is)

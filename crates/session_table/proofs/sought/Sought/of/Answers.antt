@@ -1,36 +1,32 @@
-use Rattle.std.proofs.Common.{◌≡◌, sym, arith, get_or}
-use Rattle.refl_types.specs.declared.types.Mode.TheVariants.{Twamp}
+use Rattle.std.proofs.Common.{◌≡◌, ◌∙◌, ap}
+use Rattle.refl_types.specs.declared.types.Mode.TheVariants.{Plain}
+use Rattle.session_key.specs.Matching.{query_of}
 use Rattle.session_world.specs.Keys.{Query}
-use Rattle.session_table.specs.Sought.{third_word}
-use Rattle.session_table.proofs.KeyWords.{no_extra, key_for, first_is, second_is, third_is, word_low, word_room, plain_told, auth_told}
+use Rattle.session_table.specs.Sought.{told_word}
+use Rattle.session_table.proofs.KeyWords.{word_low, word_room, plain_told}
 use Rattle.session_table.proofs.sought.Sought.of.Goals as goal
 
 pub told-plain-requires-clause-low : goal.told-plain-requires-clause-low
-told-plain-requires-clause-low c = let q : Query = c.of-query.result in let w = c.key_words-words in
-    word_low q (get_or w.result 2 0) (sym (third_is (key_for q Twamp 0) no_extra w.result (sym w.ensures.value)))
+unfolding query_of
+told-plain-requires-clause-low c = let w = c.first_words-first in
+    word_low (query_of c.args.meta.now.local c.args.meta.now.peer c.args.octets.now) w.result.2 w.ensures.third
 
 pub told-plain-requires-clause-room : goal.told-plain-requires-clause-room
-told-plain-requires-clause-room c = let q : Query = c.of-query.result in let w = c.key_words-words in
-    word_room q (get_or w.result 2 0) (sym (third_is (key_for q Twamp 0) no_extra w.result (sym w.ensures.value))) w.ensures.key_fits.local w.ensures.key_fits.peer
-
-pub told-auth-requires-clause-low : goal.told-auth-requires-clause-low
-told-auth-requires-clause-low c = let q : Query = c.of-query.result in let w = c.key_words-words in
-    let low = word_low q (get_or w.result 2 0) (sym (third_is (key_for q Twamp 0) no_extra w.result (sym w.ensures.value))) in omega (arith, low)
-
-pub told-auth-requires-clause-room : goal.told-auth-requires-clause-room
-told-auth-requires-clause-room c = let q : Query = c.of-query.result in let w = c.key_words-words in
-    word_room q (get_or w.result 2 0) (sym (third_is (key_for q Twamp 0) no_extra w.result (sym w.ensures.value))) w.ensures.key_fits.local w.ensures.key_fits.peer
+unfolding query_of
+told-plain-requires-clause-room c = let w = c.first_words-first in
+    word_room (query_of c.args.meta.now.local c.args.meta.now.peer c.args.octets.now) w.result.2 w.ensures.third w.ensures.local_fits w.ensures.peer_fits
 
 pub invariant_of-result : goal.invariant_of-result
-invariant_of-result c = let q : Query = c.of-query.result in let w = c.key_words-words in
-    let twamp : get_or w.result 2 0 ≡ third_word q Twamp 0 = sym (third_is (key_for q Twamp 0) no_extra w.result (sym w.ensures.value)) in record {
-      local_fits = w.ensures.key_fits.local;
-      peer_fits = w.ensures.key_fits.peer;
-      plain_fits = λ s e. (c.told-plain.ensures.some s e).1;
-      auth_fits = λ s e. (c.told-auth.ensures.some s e).1;
-      first_is = sym (first_is (key_for q Twamp 0) no_extra w.result (sym w.ensures.value));
-      second_is = sym (second_is (key_for q Twamp 0) no_extra w.result (sym w.ensures.value));
-      plain_is = plain_told q (get_or w.result 2 0) c.told-plain.result q.plain twamp (c.told-plain.ensures.some, c.told-plain.ensures.none);
-      auth_is = auth_told q (get_or w.result 2 0) c.told-auth.result q.auth twamp (c.told-auth.ensures.some, c.told-auth.ensures.none);
-      twamp_is = twamp;
+unfolding query_of
+invariant_of-result c =
+    let q : Query = query_of c.args.meta.now.local c.args.meta.now.peer c.args.octets.now in
+    let w = c.first_words-first in
+    let same : c.of-query.result.plain ≡ q.plain = ap (λ (x : Query). x.plain) c.of-query.ensures in record {
+      local_fits = w.ensures.local_fits;
+      peer_fits = w.ensures.peer_fits;
+      plain_fits = λ s e. (c.told-plain.ensures.some s (same ∙ e)).1;
+      first_is = w.ensures.first;
+      second_is = w.ensures.second;
+      plain_is = plain_told q w.result.2 c.told-plain.result c.of-query.result.plain w.ensures.third (c.told-plain.ensures.some, c.told-plain.ensures.none) ∙ ap (told_word q Plain) same;
+      twamp_is = w.ensures.third;
     }

@@ -1,0 +1,129 @@
+//! Operators in a run, alone and beside a client of TWAMP-Control.
+
+use super::messages::{
+    START_ACK, acceptance, greeting, request, server_start, set_up, start, stop,
+};
+use super::talk::{SECOND, Talk, run};
+use net_io::ConnKind;
+use refl_types::{Address, Endpoint};
+
+const ONE_SLOT: &str = "locals = [\"192.0.2.10:862\"]\nslots = 1\n[configs.edge]\n";
+
+#[test]
+fn an_operator_is_answered_line_by_line(rt: HostRuntime) {
+    let alloc = rt.alloc();
+    let mut talk = Talk::new(&rt, alloc, None, None);
+    talk.opens(&rt, 0, 3, ConnKind::Operator);
+    let lines = b"open 0 192.0.2.1:5000 plain 7 edge 0\n\
+        count 0 192.0.2.1:5000 plain 7\n\
+        open 0 192.0.2.1:5000 plain 7 edge 0\n\
+        open 0 192.0.2.1:5000 auth 7 edge 0\n\
+        open 1 192.0.2.1:5000 plain 8 edge 0\n\
+        set 0 192.0.2.1:5000 plain 8 edge\n\
+        list\n\
+        close 0 192.0.2.1:5000 plain 7\n\
+        open 0 192.0.2.1:5000 plain 7 edge 0\n\
+        frob\n\
+        quit\n";
+    talk.gives(&rt, 0, 3, lines);
+    talk.is_sent(&rt, 3, b"ok\n");
+    talk.is_sent(&rt, 3, b"ok 0\n");
+    talk.is_sent(&rt, 3, b"refused duplicate\n");
+    talk.is_sent(&rt, 3, b"refused mode clash\n");
+    talk.is_sent(&rt, 3, b"refused local\n");
+    talk.is_sent(&rt, 3, b"refused no such\n");
+    talk.is_sent(&rt, 3, b"0 192.0.2.1:5000 plain 7 0\n");
+    talk.is_sent(&rt, 3, b"ok 1\n");
+    talk.is_sent(&rt, 3, b"ok 0\n");
+    talk.is_sent(&rt, 3, b"ok\n");
+    talk.is_sent(&rt, 3, b"refused line\n");
+    talk.is_sent(&rt, 3, b"bye\n");
+    let report = b"desk events 2 faults 0 quit\nsessions live 1 closed 1 expired 0\n";
+    run(&rt, alloc, ONE_SLOT, talk, report);
+}
+
+const WAITING: &str =
+    "locals = [\"192.0.2.10:862\"]\n[configs.edge]\n[[sessions]]\npeer = \"198.51.100.1:5000\"\nconfig = \"edge\"\nwait = 10\n";
+
+#[test]
+fn a_session_expires_at_the_tick_by_which_its_wait_has_passed(rt: HostRuntime) {
+    let alloc = rt.alloc();
+    let mut talk = Talk::new(&rt, alloc, None, None);
+    talk.ticks(&rt, 15 * SECOND - 1);
+    talk.ends(&rt, 15 * SECOND - 1);
+    let living = b"desk events 2 faults 0 end\nsessions live 1 closed 0 expired 0\n";
+    run(&rt, alloc, WAITING, talk, living);
+
+    let mut talk = Talk::new(&rt, alloc, None, None);
+    talk.ticks(&rt, 15 * SECOND - 1);
+    talk.ticks(&rt, 15 * SECOND);
+    talk.ends(&rt, 15 * SECOND);
+    let expired = b"desk events 3 faults 0 end\nsessions live 0 closed 0 expired 1\n";
+    run(&rt, alloc, WAITING, talk, expired);
+}
+
+/// A file for clients and operators.
+const BOTH: &str =
+    "locals = [\"192.0.2.10:862\"]\nslots = 4\ncontrol = \"192.0.2.10:862\"\noperator = \"127.0.0.1:8620\"\ntwamp = \"edge\"\n[configs.edge]\n[configs.core]\nformat = \"ptp\"\n";
+
+const CONTROL: Endpoint = Endpoint {
+    address: Address::V4([192, 0, 2, 10]),
+    port: 862,
+};
+
+const OPERATOR: Endpoint = Endpoint {
+    address: Address::V4([127, 0, 0, 1]),
+    port: 8620,
+};
+
+#[test]
+fn an_operator_sees_and_changes_the_sessions_of_a_client(rt: HostRuntime) {
+    let alloc = rt.alloc();
+    let mut talk = Talk::new(&rt, alloc, Some(CONTROL), Some(OPERATOR));
+    talk.opens(&rt, 0, 3, ConnKind::Operator);
+    talk.opens(&rt, 0, 7, ConnKind::Control);
+    talk.is_sent(&rt, 7, &greeting());
+    talk.gives(&rt, 0, 7, &set_up());
+    talk.is_sent(&rt, 7, &server_start());
+    talk.gives(&rt, 5 * SECOND, 7, &request(0));
+    talk.is_sent(&rt, 7, &acceptance(1));
+    talk.gives(
+        &rt,
+        5 * SECOND,
+        3,
+        b"list\nopen 0 192.0.2.1:6000 twamp 0 edge 0\n",
+    );
+    talk.is_sent(&rt, 3, b"ok 0\n");
+    talk.is_sent(&rt, 3, b"refused duplicate\n");
+    talk.gives(
+        &rt,
+        5 * SECOND,
+        3,
+        b"open 0 192.0.2.1:5000 plain 7 edge 10\n",
+    );
+    talk.is_sent(&rt, 3, b"ok\n");
+    talk.gives(&rt, 6 * SECOND, 7, &start());
+    talk.is_sent(&rt, 7, &START_ACK);
+    talk.gives(
+        &rt,
+        6 * SECOND,
+        3,
+        b"set 0 192.0.2.1:6000 twamp 0 core\nlist\n",
+    );
+    talk.is_sent(&rt, 3, b"ok\n");
+    talk.is_sent(&rt, 3, b"0 192.0.2.1:5000 plain 7 0\n");
+    talk.is_sent(&rt, 3, b"0 192.0.2.1:6000 twamp 0 0\n");
+    talk.is_sent(&rt, 3, b"ok 2\n");
+    talk.gives(&rt, 7 * SECOND, 7, &stop(1));
+    talk.closes(&rt, 7 * SECOND, 7);
+    talk.ticks(&rt, 9 * SECOND);
+    talk.gives(&rt, 9 * SECOND, 3, b"list\n");
+    talk.is_sent(&rt, 3, b"0 192.0.2.1:5000 plain 7 0\n");
+    talk.is_sent(&rt, 3, b"ok 1\n");
+    talk.ticks(&rt, 15 * SECOND);
+    talk.gives(&rt, 15 * SECOND, 3, b"list\nquit\nlist\n");
+    talk.is_sent(&rt, 3, b"ok 0\n");
+    talk.is_sent(&rt, 3, b"bye\n");
+    let report = b"desk events 14 faults 0 quit\nsessions live 0 closed 1 expired 1\n";
+    run(&rt, alloc, BOTH, talk, report);
+}
