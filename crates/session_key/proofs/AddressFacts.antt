@@ -58,7 +58,7 @@ sixteen a b x y u v la lb ba bb ex ey eu ev =
 pub front_same : (x y : ℕ) (t s : Bool) → (eqb x y && t) ≡ s → x ≡ y → t ≡ s
 front_same x y t s e h = ap (λ (b : Bool). b && t) (sym (subst (λ (n : ℕ). eqb x n ≡ true) h (eqb-same x))) ∙ e
 
-pub is_not : (x y : ℕ) → (x ≡ y → ⊥) → eqb x y ≡ false
+is_not : (x y : ℕ) → (x ≡ y → ⊥) → eqb x y ≡ false
 is_not x y ne =
     elim (eqb_tells x y) [
       | inl p ↦ absurd (ne p.1)

@@ -2,4 +2,3 @@ pub mod MatchLaws
 pub mod WordLaws
 pub mod PlaceLaws
 pub mod AddressFacts
-pub mod ArrivalFacts

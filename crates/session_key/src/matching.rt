@@ -1,12 +1,11 @@
 //! Which datagrams are of which session (RFC 8972, section 3).
 
-ghost use Rattle.std.specs.Prelude.{◌≡◌, ◌<◌, ◌^◌, ◌==◌, ◌&&◌, unwrap_or};
+ghost use Rattle.std.specs.Prelude.{◌≡◌, ◌<◌, ◌^◌, ◌==◌, ◌&&◌};
 ghost use Rattle.refl_types.specs.Same.{same_octets, same_address, same_endpoint};
-ghost use Rattle.session_key.specs.Matching.{ssid_at, query_of, is_told, agrees, matches};
+ghost use Rattle.session_key.specs.Matching.{ssid_at, query_of, agrees, matches};
 
 use octet_format::field8;
 use refl_types::{Address, Endpoint, Key, Meta, Mode};
-use std::marker::Model;
 
 /// What of a datagram is compared with keys.
 #[derive(Clone, Copy, Debug, PartialEq, Eq)]
@@ -109,88 +108,6 @@ impl Query {
     }
 
     /// Whether the datagram is one of the session with this key.
-    #[inline(always)]
-    #[tactic(auto, unfolding(crate::specs::Matching::matches))]
-    pub fn matches(&self, key: &Key) -> bool
-        ensures { result ≡ matches self.now key.now }
-    {
-        // Sessions of one sender mostly differ in their SSID, so it is looked at first.
-        self.agrees(key) && has_ends(self.local, &self.peer, key)
-    }
-}
-
-/// A datagram that is compared with keys at once. Contracts see it as its query. The SSID of an authenticated packet is read
-/// only where it is compared, since most sessions aren't authenticated.
-#[derive(Drop)]
-pub struct Arrival<'a> {
-    local: u16,
-    peer: Endpoint,
-    /// The SSID of an unauthenticated packet, or `NO_SSID`.
-    plain: u32,
-    octets: &'a [u8],
-}
-
-impl<'a> Model for Arrival<'a> {
-    ghost use Rattle.std.specs.Prelude.{◌≡◌, unwrap_or};
-    ghost use Rattle.session_key.specs.declared.matching.Query.{Query};
-    ghost use Rattle.session_key.specs.Matching.{ssid_at, query_of};
-
-    ghost Value = { Query };
-
-    ghost view = { λ a. query_of a.local a.peer a.octets.now };
-
-    ghost invariant = { λ a. a.plain ≡ unwrap_or (ssid_at 14 a.octets.now) 65536 };
-}
-
-/// Whether an SSID is there, and is this one.
-#[inline(always)]
-fn is_told(told: Option<u16>, ssid: u16) -> bool
-    ensures { result ≡ is_told told ssid }
-{
-    told == Some(ssid)
-}
-
-/// A number that is no SSID.
-const NO_SSID: u32 = 65_536;
-
-/// The SSID of an unauthenticated packet, or `NO_SSID`.
-#[inline(always)]
-fn plain_ssid(octets: &[u8]) -> u32
-    ensures { result ≡ unwrap_or (ssid_at 14 octets.now) 65536 }
-{
-    match ssid_at(14, octets) {
-        Some(ssid) => u32::from(ssid),
-        None => NO_SSID,
-    }
-}
-
-impl<'a> Arrival<'a> {
-    /// A datagram as it is compared.
-    #[inline(always)]
-    pub fn of(meta: &Meta, octets: &'a [u8]) -> Arrival<'a>
-        ensures { result ≡ query_of meta.now.local meta.now.peer octets.now }
-    {
-        Arrival {
-            local: meta.local,
-            peer: meta.peer,
-            plain: plain_ssid(octets),
-            octets,
-        }
-    }
-
-    /// Whether its SSID is the key's, in the modes that have one.
-    #[inline(always)]
-    fn agrees(&self, key: &Key) -> bool
-        ensures { result ≡ agrees key.now.mode self.now key.now.ssid }
-    {
-        match key.mode {
-            Mode::Plain => self.plain == u32::from(key.ssid),
-            Mode::Auth => is_told(ssid_at(26, self.octets), key.ssid),
-            Mode::Twamp => true,
-        }
-    }
-
-    /// Whether it is one of the session with this key.
     #[inline(always)]
     #[tactic(auto, unfolding(crate::specs::Matching::matches))]
     pub fn matches(&self, key: &Key) -> bool
