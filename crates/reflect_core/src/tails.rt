@@ -132,8 +132,8 @@ fn asked_octets(input: &[u8]) -> &[u8; 4]
 }
 
 /// Writes the tail of a reply after its base packet, which has as many octets as the request's, and says whether the
-/// integrity of the request's tail hasn't failed.
-#[inline(always)]
+/// integrity of the request's tail hasn't failed. It stands out of line, since most datagrams have no tail.
+#[inline(never)]
 fn write_tail_at(
     mode: Mode,
     config: &KeyedConfig,
@@ -166,7 +166,7 @@ fn write_tail_at(
 }
 
 /// Writes the tail of a reply after its base packet, if there is one, and says whether the integrity of the request's
-/// tail hasn't failed. Most datagrams have no tail.
+/// tail hasn't failed.
 #[inline(always)]
 pub fn write_tail_after(
     mode: Mode,
