@@ -9,7 +9,7 @@ mod words;
 pub use laws::{law_excludes, law_words};
 pub use matching::{Query, matches};
 pub use placing::place;
-pub use words::{first_words, from_key_words, key_words};
+pub use words::{first_words, from_key_words, key_words, mode_in};
 
 #[cfg(test)]
 mod tests {

@@ -6,9 +6,9 @@ use Rattle.refl_types.specs.declared.types.Mode.{Mode}
 use Rattle.refl_types.specs.declared.types.Mode.TheVariants.{Plain, Auth, Twamp}
 use Rattle.refl_types.specs.Keys.{is_sound_in}
 use Rattle.refl_types.specs.Same.{same_endpoint, SameIsEqual}
-use Rattle.refl_types.specs.Spelling.{flag, address_octets, mode_code, FitsEndpoint, FitsSession}
+use Rattle.refl_types.specs.Spelling.{flag, address_octets, FitsEndpoint, FitsSession}
 use Rattle.session_key.specs.Matching.{is_told, agrees, matches}
-use Rattle.session_key.specs.Words.{is_v6, ends_word, extra_word, key_words, AreKeyWords, key_of_words, extra_of_words}
+use Rattle.session_key.specs.Words.{is_v6, ends_word, mode_of, extra_word, key_words, AreKeyWords, key_of_words, extra_of_words}
 use Rattle.session_world.specs.Keys.{Query, Key, Extra}
 use Rattle.session_table.specs.Sought.{first_word, second_word, third_word, told_word, IsTold}
 use Rattle.session_table.proofs.BoolFacts.{true_ne_false, both, is_false, number_case}
@@ -56,6 +56,15 @@ auth_told q twamp n (Some s) e h = (h.0 s refl).0 ∙ (ap (λ (m : ℕ). m - 2 +
 told_some : (q : Query) (m : Mode) (o : Option ℕ) (n : ℕ) → n ≡ told_word q m o → ¬ (n ≡ third_word q Twamp 0) → (s : ℕ) × (o ≡ Some s) × (n ≡ third_word q m s)
 told_some q m None n e other = absurd (other e)
 told_some q m (Some s) n e other = (s, refl, e)
+
+pub told_plain : (q : Query) (n : ℕ) → ((s : ℕ) → q.plain ≡ Some s → s < 2 ^ 16) → n ≡ told_word q Plain q.plain → ¬ (n ≡ third_word q Twamp 0) → IsTold q n Plain
+told_plain q n low e other = let t = told_some q Plain q.plain n e other in record {
+  ssid = t.0;
+  fits = low t.0 t.1;
+  zero = λ same. cc;
+  third_is = t.2;
+  told = ap (λ (o : Option ℕ). is_told o t.0) t.1 ∙ eq-eqb t.0 t.0 refl;
+}
 
 pub told_auth : (q : Query) (n : ℕ) → ((s : ℕ) → q.auth ≡ Some s → s < 2 ^ 16) → n ≡ told_word q Auth q.auth → ¬ (n ≡ third_word q Twamp 0) → IsTold q n Auth
 told_auth q n low e other = let t = told_some q Auth q.auth n e other in record {
@@ -115,20 +124,14 @@ number_is m n h = number_case m n (λ (e : m ≡ n). e) (λ (e : ¬ (m ≡ n)). 
 
 -- ---- what a third word tells of the mode
 
-word_mode : (p s l k f : ℕ) → k < 3 → f < 2 → (p * 2 ^ 48 + s * 2 ^ 32 + l * 2 ^ 16 + k * 2 + f) / 2 % 4 ≡ k
+word_mode : (p s l k f : ℕ) → k < 3 → f < 2 → (p * 2 ^ 48 + s * 2 ^ 32 + l * 2 ^ 16 + k * 2 + f) / 2 % 2 ^ 15 ≡ k
 word_mode p s l k f hk hf = omega (arith, hk, hf)
 
-code_low : (m : Mode) → mode_code m < 3
-code_low Plain = omega arith
-code_low Auth = omega arith
-code_low Twamp = omega arith
-
-mode_told : (q : Query) (m : Mode) (ssid : ℕ) → third_word q m ssid / 2 % 4 ≡ mode_code m
-mode_told q m ssid = word_mode q.peer.port ssid q.local (mode_code m) (flag (is_v6 q.peer.address)) (code_low m) (flag_low (is_v6 q.peer.address))
-
 -- the word of mode Twamp, which stands where no SSID is told, tells that mode
-pub not_twamp : (q : Query) (n k : ℕ) → n / 2 % 4 ≡ k → k < 2 → ¬ (n ≡ third_word q Twamp 0)
-not_twamp q n k e low same = let two : n / 2 % 4 ≡ 2 = ap (λ (i : ℕ). i / 2 % 4) same ∙ mode_told q Twamp 0 in omega (arith, e, low, two)
+pub not_twamp : (q : Query) (n : ℕ) (m : Mode) → mode_of (n / 2 % 2 ^ 15) ≡ m → ¬ (m ≡ Twamp) → ¬ (n ≡ third_word q Twamp 0)
+not_twamp q n m e other same =
+    let two : n / 2 % 2 ^ 15 ≡ 2 = ap (λ (i : ℕ). i / 2 % 2 ^ 15) same ∙ word_mode q.peer.port 0 q.local 2 (flag (is_v6 q.peer.address)) (omega arith) (flag_low (is_v6 q.peer.address)) in
+    other (sym e ∙ ap mode_of two)
 
 twamp_zero : (m : Mode) (s : ℕ) (x : Extra) → is_sound_in m s x ≡ true → m ≡ Twamp → s ≡ 0
 twamp_zero Plain s x h e = cc

@@ -2,13 +2,14 @@
 
 ghost use Rattle.std.specs.Prelude.{◌≡◌, ℕ, ◌+◌, ◌-◌, ◌*◌, ◌/◌, ◌%◌, ◌<◌, ◌≤◌, ◌^◌, ◌==◌, ◌&&◌, true, false, IfSome, Some, None};
 ghost use Rattle.session_key.specs.Matching.{query_of, matches};
-ghost use Rattle.session_key.specs.Words.{AreKeyWords, key_of_words, extra_of_words};
+ghost use Rattle.session_key.specs.Words.{AreKeyWords, mode_of, key_of_words, extra_of_words};
 ghost use Rattle.refl_types.specs.Keys.{is_sound};
 ghost use Rattle.refl_types.specs.declared.types.Mode.{Mode};
+ghost use Rattle.refl_types.specs.declared.types.Mode.TheVariants.{Auth};
 ghost use Rattle.session_table.specs.Sought.{first_word, second_word, IsTold};
 
 use refl_types::{Extra, Key, Meta, Mode, law_same};
-use session_key::{Query, first_words, law_words};
+use session_key::{Query, first_words, law_words, mode_in};
 use std::marker::Model;
 
 /// A datagram's query, and the words of the keys that it matches in the modes that are met most. Contracts see it as the query.
@@ -75,34 +76,28 @@ impl<'a> Sought<'a> {
         Query::of(self.meta, self.octets)
     }
 
-    /// Mode Auth, where this third word is that of the session in it with the query's SSID. The word is worked out here, since
-    /// few sessions are authenticated.
+    /// Whether this third word, of mode Auth, is that of the session with the query's SSID. Its word is worked out here, since few
+    /// sessions are authenticated.
     #[inline(always)]
-    fn auth(&self, third: u64) -> Option<Mode>
-        requires { third / 2 % 4 ≡ 1 }
-        ensures some { IfSome result (IsTold self.now third) }
-        ensures none { result ≡ None → (m : Mode) → ¬ IsTold self.now third m }
+    fn is_auth(&self, third: u64) -> bool
+        requires { mode_of (third / 2 % 2 ^ 15) ≡ Auth }
+        ensures yes { result ≡ true → IsTold self.now third Auth }
+        ensures no { result ≡ false → (m : Mode) → ¬ IsTold self.now third m }
     {
         let query = self.query();
-        if third == told(self.twamp, 2, query.auth) {
-            Some(Mode::Auth)
-        } else {
-            None
-        }
+        third == told(self.twamp, 2, query.auth)
     }
 
-    /// The mode of the session that has this third word and the query's SSID. The word itself tells which it may be.
+    /// Whether this third word is that of the session with the query's SSID, in the mode that the word tells.
     #[inline(always)]
-    fn mode(&self, third: u64) -> Option<Mode>
-        ensures some { IfSome result (IsTold self.now third) }
-        ensures none { result ≡ None → (m : Mode) → ¬ IsTold self.now third m }
+    fn is_told(&self, third: u64) -> bool
+        ensures yes { result ≡ true → IsTold self.now third (mode_of (third / 2 % 2 ^ 15)) }
+        ensures no { result ≡ false → (m : Mode) → ¬ IsTold self.now third m }
     {
-        match third / 2 % 4 {
-            0 if third == self.plain => Some(Mode::Plain),
-            0 => None,
-            1 => self.auth(third),
-            _ if third == self.twamp => Some(Mode::Twamp),
-            _ => None,
+        match mode_in(third) {
+            Mode::Plain => third == self.plain,
+            Mode::Auth => self.is_auth(third),
+            Mode::Twamp => third == self.twamp,
         }
     }
 
@@ -124,21 +119,18 @@ impl<'a> Sought<'a> {
         law_same();
         law_words();
         let third = words[2];
-        match self.mode(third) {
-            Some(mode) => {
-                if self.has_address(words[0], words[1]) {
-                    Some(Key {
-                        local: self.meta.local,
-                        peer: self.meta.peer,
-                        mode,
-                        ssid: ((third >> 32) % (1 << 16)) as u16,
-                    })
-                } else {
-                    None
-                }
-            }
-            None => None,
+        if !self.is_told(third) {
+            return None;
         }
+        if !self.has_address(words[0], words[1]) {
+            return None;
+        }
+        Some(Key {
+            local: self.meta.local,
+            peer: self.meta.peer,
+            mode: mode_in(third),
+            ssid: ((third >> 32) % (1 << 16)) as u16,
+        })
     }
 }
 

@@ -55,12 +55,12 @@ fn turn_usual(
         retire(table, worker);
         return Err(cause);
     }
-    let DrawnRow::Number { n, row } = draw_by(table, worker, known, sight) else {
-        retire(table, worker);
+    let drawn = draw_by(table, worker, known, sight);
+    retire(table, worker);
+    let DrawnRow::Number { n, row } = drawn else {
         return Err(UnsentCause::NoSession);
     };
     let config = known.config(row);
-    retire(table, worker);
     if row == sight.row {
         return Ok(write_usual(sight, config, n, meta, t3, octets, out));
     }
@@ -211,10 +211,14 @@ pub fn arrive(
     let Ok(mut worker) = book.split(table) else {
         unreachable!();
     };
-    let turned = turn(table, &mut worker, known, meta, t3, octets, locals, out);
-    book.join(table, worker);
-    match turned {
-        Ok(len) => len,
-        Err(cause) => write_unsent(cause, out),
+    match turn(table, &mut worker, known, meta, t3, octets, locals, out) {
+        Ok(len) => {
+            book.join(table, worker);
+            len
+        }
+        Err(cause) => {
+            book.join(table, worker);
+            write_unsent(cause, out)
+        }
     }
 }

@@ -24,20 +24,20 @@ returns-in-Err-clause-turned c = λ old found.
     silent_turn z d c.args.locals.now c.args.out.now c.args.out.now old c.args.known.now at xs s c.config.result.now c.in-Err.cause saw c.retire.ensures.answers refl
     (subst (λ (r : Result (Unit {0}) UnsentCause). IsJudged s.key.mode c.config.result.now d.octets r) c.in-Err.is c.judge_usual.ensures)
 
-pub returns-in_default-draw_by-clause-turned : goal.returns-in_default-draw_by-clause-turned
-returns-in_default-draw_by-clause-turned c = λ old found.
+pub returns-in_default-drawn-clause-turned : goal.returns-in_default-drawn-clause-turned
+returns-in_default-drawn-clause-turned c = λ old found.
     let z = size_of c.args.table.now in
     let d : Datagram = datagram_of c.args.meta.now c.args.t3 c.args.octets.now in
     let s = c.args.sight.now in
     let at = worker_steps c.args.worker.now in
-    let on = worker_steps c.draw_by.new.seat in
-    let xs = worker_steps c.retire-in_default-draw_by.new.seat in
-    let late = c.in_default-draw_by.ensures.draws (query_for d) found.sees.saw.held in
+    let on = worker_steps c.draw_by-drawn.new.seat in
+    let xs = worker_steps c.retire-2.new.seat in
+    let late = c.in_default-drawn.ensures.draws (query_for d) found.sees.saw.held in
     let added : List Step = Retire ∷ Draw s.slot late.0.read ∷ [] in
     let saw : Sighted z.slots d old c.args.known.now at xs s c.config.result.now =
     sighted z d old c.args.known.now [] at xs added s c.config.result.now c.law_reads.ensures refl found.sees found.stays c.config.ensures
-    (c.retire-in_default-draw_by.ensures.seat.steps ∙ ap (λ (l : List Step). Retire ∷ l) late.0.steps) in
-    late_turn z d c.args.locals.now c.args.out.now c.args.out.now old c.args.known.now c.draw_by.new.known at on xs s c.config.result.now saw late.0 late.1 c.retire-in_default-draw_by.ensures.answers refl
+    (c.retire-2.ensures.seat.steps ∙ ap (λ (l : List Step). Retire ∷ l) late.0.steps) in
+    late_turn z d c.args.locals.now c.args.out.now c.args.out.now old c.args.known.now c.draw_by-drawn.new.known at on xs s c.config.result.now saw late.0 late.1 c.retire-2.ensures.answers refl
 
 pub config-config-requires : goal.config-config-requires
 config-config-requires c =
@@ -53,7 +53,7 @@ write_usual-requires-clause-usual c =
     let d : Datagram = datagram_of c.args.meta.now c.args.t3 c.args.octets.now in
     let s = c.args.sight.now in
     let k = (c.in-Number.ensures.draws (query_for d) c.requires.found.1.sees.saw.held).knows in
-    let one = one_row c.args.known.now c.draw_by.new.known _ _ s c.in-Number.row c.config.result.now c.config-config.result.now k c.config.ensures c.config-config.ensures (sym c.if-row-sight.true) in
+    let one = one_row c.args.known.now c.draw_by-drawn.new.known _ _ s c.in-Number.row c.config.result.now c.config-config.result.now k c.config.ensures c.config-config.ensures (sym c.if-row-sight.true) in
     subst (λ (x : ConfigParts). IsUsualPlain s.key.mode x) one (c.requires.usual c.config.result.now c.config.ensures)
 
 pub write_usual-requires-clause-judged : goal.write_usual-requires-clause-judged
@@ -61,7 +61,7 @@ write_usual-requires-clause-judged c =
     let d : Datagram = datagram_of c.args.meta.now c.args.t3 c.args.octets.now in
     let s = c.args.sight.now in
     let k = (c.in-Number.ensures.draws (query_for d) c.requires.found.1.sees.saw.held).knows in
-    let one = one_row c.args.known.now c.draw_by.new.known _ _ s c.in-Number.row c.config.result.now c.config-config.result.now k c.config.ensures c.config-config.ensures (sym c.if-row-sight.true) in
+    let one = one_row c.args.known.now c.draw_by-drawn.new.known _ _ s c.in-Number.row c.config.result.now c.config-config.result.now k c.config.ensures c.config-config.ensures (sym c.if-row-sight.true) in
     subst (λ (x : ConfigParts). judgement s.key.mode x c.args.octets.now ≡ Reflect) one
     (subst (λ (r : Result (Unit {0}) UnsentCause). IsJudged s.key.mode c.config.result.now c.args.octets.now r) c.in_default.is c.judge_usual.ensures).0
 
@@ -71,17 +71,17 @@ returns-then-row-sight-clause-turned c = λ old found.
     let d : Datagram = datagram_of c.args.meta.now c.args.t3 c.args.octets.now in
     let s = c.args.sight.now in
     let at = worker_steps c.args.worker.now in
-    let on = worker_steps c.draw_by.new.seat in
+    let on = worker_steps c.draw_by-drawn.new.seat in
     let xs = worker_steps c.retire-2.new.seat in
     let took = c.in-Number.ensures.draws (query_for d) found.sees.saw.held in
     let g = drawing s.slot took.read c.in-Number.row at on took.steps in
     let saw : Sighted z.slots d old c.args.known.now at xs s c.config.result.now =
     sighted z d old c.args.known.now [] at xs (Retire ∷ g.0) s c.config.result.now c.law_reads.ensures refl found.sees found.stays c.config.ensures
     (c.retire-2.ensures.seat.steps ∙ ap (λ (l : List Step). Retire ∷ l) g.1) in
-    let drawn : Numbered z.slots c.args.known.now c.draw_by.new.known at on xs s c.in-Number.n c.in-Number.row c.config-config.result.now =
-    numbered z c.args.known.now c.draw_by.new.known at on xs (Retire ∷ []) s c.in-Number.n c.in-Number.row c.config-config.result.now c.law_reads.ensures took c.in-Number.ensures.known c.config-config.ensures c.retire-2.ensures.seat.steps in
+    let drawn : Numbered z.slots c.args.known.now c.draw_by-drawn.new.known at on xs s c.in-Number.n c.in-Number.row c.config-config.result.now =
+    numbered z c.args.known.now c.draw_by-drawn.new.known at on xs (Retire ∷ []) s c.in-Number.n c.in-Number.row c.config-config.result.now c.law_reads.ensures took c.in-Number.ensures.known c.config-config.ensures c.retire-2.ensures.seat.steps in
     let reflects : IsReflected s.key.mode c.config.result.now d.octets = subst (λ (r : Result (Unit {0}) UnsentCause). IsJudged s.key.mode c.config.result.now c.args.octets.now r) c.in_default.is c.judge_usual.ensures in
-    replied_turn z d c.args.locals.now c.args.out.now c.write_usual.new.out old c.args.known.now c.draw_by.new.known at on xs s c.config.result.now c.in-Number.n c.in-Number.row c.config-config.result.now saw drawn c.retire-2.ensures.answers reflects
+    replied_turn z d c.args.locals.now c.args.out.now c.write_usual.new.out old c.args.known.now c.draw_by-drawn.new.known at on xs s c.config.result.now c.in-Number.n c.in-Number.row c.config-config.result.now saw drawn c.retire-2.ensures.answers reflects
     c.write_usual.result (c.write_usual.ensures c.args.locals.now)
 
 pub returns-clause-turned : goal.returns-clause-turned
@@ -90,16 +90,16 @@ returns-clause-turned c = λ old found.
     let d : Datagram = datagram_of c.args.meta.now c.args.t3 c.args.octets.now in
     let s = c.args.sight.now in
     let at = worker_steps c.args.worker.now in
-    let on = worker_steps c.draw_by.new.seat in
+    let on = worker_steps c.draw_by-drawn.new.seat in
     let xs = worker_steps c.retire-2.new.seat in
     let took = c.in-Number.ensures.draws (query_for d) found.sees.saw.held in
     let g = drawing s.slot took.read c.in-Number.row at on took.steps in
     let saw : Sighted z.slots d old c.args.known.now at xs s c.config.result.now =
     sighted z d old c.args.known.now [] at xs (Retire ∷ g.0) s c.config.result.now c.law_reads.ensures refl found.sees found.stays c.config.ensures
     (c.retire-2.ensures.seat.steps ∙ ap (λ (l : List Step). Retire ∷ l) g.1) in
-    let drawn : Numbered z.slots c.args.known.now c.draw_by.new.known at on xs s c.in-Number.n c.in-Number.row c.config-config.result.now =
-    numbered z c.args.known.now c.draw_by.new.known at on xs (Retire ∷ []) s c.in-Number.n c.in-Number.row c.config-config.result.now c.law_reads.ensures took c.in-Number.ensures.known c.config-config.ensures c.retire-2.ensures.seat.steps in
+    let drawn : Numbered z.slots c.args.known.now c.draw_by-drawn.new.known at on xs s c.in-Number.n c.in-Number.row c.config-config.result.now =
+    numbered z c.args.known.now c.draw_by-drawn.new.known at on xs (Retire ∷ []) s c.in-Number.n c.in-Number.row c.config-config.result.now c.law_reads.ensures took c.in-Number.ensures.known c.config-config.ensures c.retire-2.ensures.seat.steps in
     let reflects : IsReflected s.key.mode c.config.result.now d.octets = subst (λ (r : Result (Unit {0}) UnsentCause). IsJudged s.key.mode c.config.result.now c.args.octets.now r) c.in_default.is c.judge_usual.ensures in
-    subst (Turned z old c.draw_by.new.known xs c.args.locals.now d c.args.out.now c.write_changed.new.out) (sym c.ok_or.ensures.value)
-    (drawn_turn z d c.args.locals.now c.args.out.now c.write_changed.new.out old c.args.known.now c.draw_by.new.known at on xs s c.config.result.now c.in-Number.n c.in-Number.row c.config-config.result.now saw drawn c.retire-2.ensures.answers reflects
+    subst (Turned z old c.draw_by-drawn.new.known xs c.args.locals.now d c.args.out.now c.write_changed.new.out) (sym c.ok_or.ensures.value)
+    (drawn_turn z d c.args.locals.now c.args.out.now c.write_changed.new.out old c.args.known.now c.draw_by-drawn.new.known at on xs s c.config.result.now c.in-Number.n c.in-Number.row c.config-config.result.now saw drawn c.retire-2.ensures.answers reflects
     c.write_changed.result c.write_changed.ensures)
