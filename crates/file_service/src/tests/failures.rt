@@ -1,19 +1,36 @@
 //! Runs in which calls fail, or budgets are spent.
 
+ghost use Rattle.net_io.specs.ScriptPort.{IsWhole};
+
 use super::{NAME, one_file};
 use crate::run_file;
 use net_io::{PortItem, ScriptDesk, ScriptPort};
 use port_io::MemSink;
+use refl_types::{Address, Endpoint, Meta};
 use std::alloc::Global;
 use std::process::Abort;
 use std::thread::Threads;
 
+/// What is told of a datagram of no session.
+const META: Meta = Meta {
+    local: 0,
+    peer: Endpoint {
+        address: Address::V4([192, 0, 2, 1]),
+        port: 5000,
+    },
+    len: 44,
+    ttl: None,
+    arrival: 0,
+};
+
 const SERVED: &str = "locals = [\"192.0.2.10:862\"]\nworkers = 1\nturns = 70\n[configs.edge]\n";
 
-/// What goes wrong in a run, and what comes of it. The first so many calls fail, and of writes the one of this number.
+/// What goes wrong in a run, and what comes of it. The first so many calls fail, and of writes the one of this number. The
+/// worker is asked once, or never.
 #[derive(Clone, Copy)]
 struct Case {
     text: &'static str,
+    is_asked: bool,
     opens: u64,
     receives: u64,
     desk_opens: u64,
@@ -26,6 +43,7 @@ struct Case {
 /// A run in which nothing goes wrong.
 const WELL: Case = Case {
     text: SERVED,
+    is_asked: false,
     opens: 0,
     receives: 0,
     desk_opens: 0,
@@ -44,19 +62,31 @@ fn first_calls(rt: &impl Abort, alloc: Global, count: u64) -> Vec<u64> {
     calls
 }
 
-/// A port that gives nothing three times, and then its end.
-fn port(rt: &impl Abort, alloc: Global, opens: u64, receives: u64) -> ScriptPort {
+/// A datagram of no session, or nothing.
+fn first_item(rt: &impl Abort, alloc: Global, is_datagram: bool) -> PortItem
+    ensures { IsWhole result }
+{
+    if !is_datagram {
+        return PortItem::Nothing;
+    }
+    let octets = Vec::from_slice(alloc, &[0; 44]).expect(rt, "octets");
+    PortItem::Datagram { meta: META, octets }
+}
+
+/// A port that gives a datagram or nothing, then nothing twice, and then its end.
+fn port(rt: &impl Abort, alloc: Global, case: &Case) -> ScriptPort {
     let mut items = Vec::new(alloc);
-    items.push(PortItem::Nothing).expect(rt, "room");
+    let first = first_item(rt, alloc, case.is_asked);
+    items.push(first).expect(rt, "room");
     items.push(PortItem::Nothing).expect(rt, "room");
     items.push(PortItem::Nothing).expect(rt, "room");
     ScriptPort::make(
         alloc,
         items,
         Vec::new(alloc),
-        first_calls(rt, alloc, opens),
+        first_calls(rt, alloc, case.opens),
         Vec::new(alloc),
-        first_calls(rt, alloc, receives),
+        first_calls(rt, alloc, case.receives),
         Vec::new(alloc),
         100,
         100,
@@ -69,7 +99,7 @@ fn expect_case<R: Threads + Abort + Sync>(rt: &R, alloc: Global, case: &Case) {
     let mut files = one_file(rt, alloc, case.text);
     let failing = Vec::from_slice(alloc, &[case.write]).expect(rt, "a number");
     let mut out = MemSink::make(alloc, 1000, failing).expect(rt, "a sink");
-    let mut ports = [port(rt, alloc, case.opens, case.receives)];
+    let mut ports = [port(rt, alloc, case)];
     let mut desk = ScriptDesk::make(
         alloc,
         Vec::new(alloc),
@@ -120,8 +150,9 @@ fn sixty_four_receives_that_fail_in_a_row_end_a_run_and_63_do_not(rt: HostRuntim
         &rt,
         rt.alloc(),
         &Case {
+            is_asked: true,
             receives: 63,
-            written: b"worker 0 taken 0 sent 0 nosession 0 short 0 badhmac 0 changed 0 noreply 0 sendfault 0 recvfault 63 end\ndesk events 1 faults 0 end\nsessions live 0 closed 0 expired 0\n",
+            written: b"worker 0 taken 1 sent 0 nosession 1 short 0 badhmac 0 changed 0 noreply 0 sendfault 0 recvfault 63 end\ndesk events 1 faults 0 end\nsessions live 0 closed 0 expired 0\n",
             ..WELL
         },
     );
