@@ -80,6 +80,14 @@ fn has_ends(local: u16, peer: &Endpoint, key: &Key) -> bool
     local == key.local && same_endpoint(peer, &key.peer)
 }
 
+/// The SSID of an authenticated packet, where it is there.
+#[inline(always)]
+pub fn auth_ssid(octets: &[u8]) -> Option<u16>
+    ensures { result ≡ ssid_at 26 octets.now }
+{
+    ssid_at(26, octets)
+}
+
 impl Query {
     /// The query of a datagram.
     #[inline(always)]
@@ -91,7 +99,7 @@ impl Query {
             local: meta.local,
             peer: meta.peer,
             plain: ssid_at(14, octets),
-            auth: ssid_at(26, octets),
+            auth: auth_ssid(octets),
         }
     }
 

@@ -6,7 +6,7 @@ use Rattle.refl_types.specs.declared.types.Mode.{Mode}
 use Rattle.refl_types.specs.declared.types.Mode.TheVariants.{Plain, Auth, Twamp}
 use Rattle.refl_types.specs.Keys.{is_sound_in}
 use Rattle.refl_types.specs.Same.{same_endpoint, SameIsEqual}
-use Rattle.refl_types.specs.Spelling.{flag, address_octets, FitsEndpoint, FitsSession}
+use Rattle.refl_types.specs.Spelling.{flag, address_octets, mode_code, FitsEndpoint, FitsSession}
 use Rattle.session_key.specs.Matching.{is_told, agrees, matches}
 use Rattle.session_key.specs.Words.{is_v6, ends_word, mode_of, extra_word, key_words, AreKeyWords, key_of_words, extra_of_words}
 use Rattle.session_world.specs.Keys.{Query, Key, Extra}
@@ -132,6 +132,24 @@ pub not_twamp : (q : Query) (n : ℕ) (m : Mode) → mode_of (n / 2 % 2 ^ 15) �
 not_twamp q n m e other same =
     let two : n / 2 % 2 ^ 15 ≡ 2 = ap (λ (i : ℕ). i / 2 % 2 ^ 15) same ∙ word_mode q.peer.port 0 q.local 2 (flag (is_v6 q.peer.address)) (omega arith) (flag_low (is_v6 q.peer.address)) in
     other (sym e ∙ ap mode_of two)
+
+code_low : (m : Mode) → mode_code m < 3
+code_low Plain = omega arith
+code_low Auth = omega arith
+code_low Twamp = omega arith
+
+code_told : (q : Query) (n : ℕ) (m : Mode) → IsTold q n m → n / 2 % 2 ^ 15 ≡ mode_code m
+code_told q n m t = ap (λ (i : ℕ). i / 2 % 2 ^ 15) t.third_is ∙ word_mode q.peer.port t.ssid q.local (mode_code m) (flag (is_v6 q.peer.address)) (code_low m) (flag_low (is_v6 q.peer.address))
+
+told_is : (o : Option ℕ) (s : ℕ) → is_told o s ≡ true → o ≡ Some s
+told_is None s h = absurd (true_ne_false (sym h))
+told_is (Some n) s h = ap (λ (i : ℕ). Some i) (number_is n s h)
+
+-- a third word of mode Auth that isn't the one which is told is that of no session
+pub no_auth : (q : Query) (n : ℕ) → n / 2 % 2 ^ 15 ≡ 1 → ¬ (n ≡ told_word q Auth q.auth) → (m : Mode) → ¬ IsTold q n m
+no_auth q n code other Plain t = let c = code_told q n Plain t in omega (arith, c, code)
+no_auth q n code other Auth t = other (t.third_is ∙ sym (ap (told_word q Auth) (told_is q.auth t.ssid t.told)))
+no_auth q n code other Twamp t = let c = code_told q n Twamp t in omega (arith, c, code)
 
 twamp_zero : (m : Mode) (s : ℕ) (x : Extra) → is_sound_in m s x ≡ true → m ≡ Twamp → s ≡ 0
 twamp_zero Plain s x h e = cc

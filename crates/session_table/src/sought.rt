@@ -1,15 +1,14 @@
 //! What a walk looks for, as words.
 
 ghost use Rattle.std.specs.Prelude.{◌≡◌, ℕ, ◌+◌, ◌-◌, ◌*◌, ◌/◌, ◌%◌, ◌<◌, ◌≤◌, ◌^◌, ◌==◌, ◌&&◌, true, false, IfSome, Some, None};
-ghost use Rattle.session_key.specs.Matching.{query_of, matches};
+ghost use Rattle.session_key.specs.Matching.{ssid_at, query_of, matches};
 ghost use Rattle.session_key.specs.Words.{AreKeyWords, mode_of, key_of_words, extra_of_words};
 ghost use Rattle.refl_types.specs.Keys.{is_sound};
 ghost use Rattle.refl_types.specs.declared.types.Mode.{Mode};
-ghost use Rattle.refl_types.specs.declared.types.Mode.TheVariants.{Auth};
 ghost use Rattle.session_table.specs.Sought.{first_word, second_word, IsTold};
 
 use refl_types::{Extra, Key, Meta, Mode, law_same};
-use session_key::{Query, first_words, law_words, mode_in};
+use session_key::{Query, auth_ssid, first_words, law_words, mode_in};
 use std::marker::Model;
 
 /// A datagram's query, and the words of the keys that it matches in the modes that are met most. Contracts see it as the query.
@@ -49,15 +48,27 @@ fn told(twamp: u64, less: u64, ssid: Option<u16>) -> u64
     }
 }
 
+/// The third word of a session of mode Auth with the SSID that a datagram tells, as `told` makes it. It stands out of line, since
+/// few sessions are authenticated.
+#[cold]
+#[inline(never)]
+fn told_auth(twamp: u64, octets: &[u8]) -> u64
+    requires low { 2 ≤ twamp }
+    requires room { twamp + 65535 * 2 ^ 32 < 2 ^ 64 }
+    ensures some { (s : ℕ) → ssid_at 26 octets.now ≡ Some s → (result ≡ twamp - 2 + s * 2 ^ 32) × (s < 2 ^ 16) }
+    ensures none { ssid_at 26 octets.now ≡ None → result ≡ twamp }
+{
+    told(twamp, 2, auth_ssid(octets))
+}
+
 impl<'a> Sought<'a> {
     /// The words for a datagram.
     #[inline(always)]
     pub(crate) fn of(meta: &'a Meta, octets: &'a [u8]) -> Sought<'a>
         ensures { result ≡ query_of meta.now.local meta.now.peer octets.now }
     {
-        let query = Query::of(meta, octets);
         let (first, second, twamp) = first_words(meta.local, &meta.peer, Mode::Twamp, 0);
-        let plain = told(twamp, 4, query.plain);
+        let plain = told(twamp, 4, Query::of(meta, octets).plain);
         Sought {
             meta,
             octets,
@@ -76,28 +87,16 @@ impl<'a> Sought<'a> {
         Query::of(self.meta, self.octets)
     }
 
-    /// Whether this third word, of mode Auth, is that of the session with the query's SSID. Its word is worked out here, since few
-    /// sessions are authenticated.
-    #[inline(always)]
-    fn is_auth(&self, third: u64) -> bool
-        requires { mode_of (third / 2 % 2 ^ 15) ≡ Auth }
-        ensures yes { result ≡ true → IsTold self.now third Auth }
-        ensures no { result ≡ false → (m : Mode) → ¬ IsTold self.now third m }
-    {
-        let query = self.query();
-        third == told(self.twamp, 2, query.auth)
-    }
-
     /// Whether this third word is that of the session with the query's SSID, in the mode that the word tells.
     #[inline(always)]
     fn is_told(&self, third: u64) -> bool
         ensures yes { result ≡ true → IsTold self.now third (mode_of (third / 2 % 2 ^ 15)) }
         ensures no { result ≡ false → (m : Mode) → ¬ IsTold self.now third m }
     {
-        match mode_in(third) {
-            Mode::Plain => third == self.plain,
-            Mode::Auth => self.is_auth(third),
-            Mode::Twamp => third == self.twamp,
+        match (third >> 1) % (1 << 15) {
+            0 => third == self.plain,
+            1 => third == told_auth(self.twamp, self.octets),
+            _ => third == self.twamp,
         }
     }
 
