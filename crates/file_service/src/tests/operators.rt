@@ -42,6 +42,35 @@ fn an_operator_is_answered_line_by_line(rt: HostRuntime) {
     run(&rt, alloc, ONE_SLOT, talk, report);
 }
 
+#[test]
+fn a_line_of_600_octets_is_refused_and_its_connection_hung_up(rt: HostRuntime) {
+    let alloc = rt.alloc();
+    let mut talk = Talk::new(&rt, alloc, None, None);
+    talk.opens(&rt, 0, 3, ConnKind::Operator);
+    talk.gives(&rt, 0, 3, &[b'a'; 600]);
+    talk.is_sent(&rt, 3, b"refused line\n");
+    talk.is_hung_up(&rt, 3);
+    talk.ends(&rt, 0);
+    let report = b"desk events 3 faults 0 end\nsessions live 0 closed 0 expired 0\n";
+    run(&rt, alloc, ONE_SLOT, talk, report);
+}
+
+#[test]
+fn a_33rd_connection_is_hung_up_at_once(rt: HostRuntime) {
+    let alloc = rt.alloc();
+    let mut talk = Talk::new(&rt, alloc, None, None);
+    for conn in 0..32 {
+        talk.opens(&rt, 0, conn, ConnKind::Operator);
+    }
+    talk.opens(&rt, 0, 32, ConnKind::Operator);
+    talk.is_hung_up(&rt, 32);
+    talk.gives(&rt, 0, 31, b"list\n");
+    talk.is_sent(&rt, 31, b"ok 0\n");
+    talk.ends(&rt, 0);
+    let report = b"desk events 35 faults 0 end\nsessions live 0 closed 0 expired 0\n";
+    run(&rt, alloc, ONE_SLOT, talk, report);
+}
+
 const WAITING: &str =
     "locals = [\"192.0.2.10:862\"]\n[configs.edge]\n[[sessions]]\npeer = \"198.51.100.1:5000\"\nconfig = \"edge\"\nwait = 10\n";
 
