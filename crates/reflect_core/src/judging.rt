@@ -76,8 +76,10 @@ pub fn is_usual_plain(mode: Mode, config: &KeyedConfig) -> bool
     ensures yes { result ≡ true → IsUsualPlain mode config.now }
     ensures no { result ≡ false → ¬ IsUsualPlain mode config.now }
 {
+    // Both are asked at once, for one branch.
+    let usual = !may_redirect(config.config());
     match mode {
-        Mode::Plain => !may_redirect(config.config()),
+        Mode::Plain => usual,
         Mode::Auth | Mode::Twamp => false,
     }
 }

@@ -9,7 +9,7 @@ mod words;
 pub use laws::{law_excludes, law_words};
 pub use matching::{Query, auth_ssid, matches};
 pub use placing::place;
-pub use words::{first_words, from_key_words, key_words, mode_in};
+pub use words::{first_words, from_key_words, key_words};
 
 #[cfg(test)]
 mod tests {

@@ -1,6 +1,6 @@
 //! A key and its extra in four words.
 
-ghost use Rattle.std.specs.Prelude.{◌≡◌, ◌<◌, ◌/◌, ◌%◌, ◌^◌, take, drop, true};
+ghost use Rattle.std.specs.Prelude.{◌≡◌, ◌<◌, ◌^◌, take, drop, true};
 ghost use Rattle.std.specs.Int.{w64, from_be_bytes};
 ghost use Rattle.session_key.specs.Words.{is_v6, key_words, AreKeyWords, key_of_words, extra_of_words, address_of, mode_of, ends_word, extra_word};
 ghost use Rattle.octet_format.specs.Octets.{IsArray, IsBytes};
@@ -23,7 +23,6 @@ fn mode_code(mode: Mode) -> u64
     }
 }
 
-#[inline(always)]
 fn mode_of(code: u64) -> Mode
     ensures { result ≡ mode_of code }
 {
@@ -32,14 +31,6 @@ fn mode_of(code: u64) -> Mode
         1 => Mode::Auth,
         _ => Mode::Twamp,
     }
-}
-
-/// The mode that the third word of a key tells.
-#[inline(always)]
-pub fn mode_in(third: u64) -> Mode
-    ensures { result ≡ mode_of (third / 2 % 2 ^ 15) }
-{
-    mode_of((third >> 1) % (1 << 15))
 }
 
 #[inline(always)]
@@ -179,7 +170,7 @@ pub fn from_key_words(words: &[u64; 4]) -> (Key, Extra)
             address: address_of(first, second, ends % 2 == 1),
             port: (ends >> 48) as u16,
         },
-        mode: mode_in(ends),
+        mode: mode_of((ends >> 1) % (1 << 15)),
         ssid: ((ends >> 32) % (1 << 16)) as u16,
     };
     let extra = Extra {

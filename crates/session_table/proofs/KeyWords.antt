@@ -57,15 +57,6 @@ told_some : (q : Query) (m : Mode) (o : Option ℕ) (n : ℕ) → n ≡ told_wor
 told_some q m None n e other = absurd (other e)
 told_some q m (Some s) n e other = (s, refl, e)
 
-pub told_plain : (q : Query) (n : ℕ) → ((s : ℕ) → q.plain ≡ Some s → s < 2 ^ 16) → n ≡ told_word q Plain q.plain → ¬ (n ≡ third_word q Twamp 0) → IsTold q n Plain
-told_plain q n low e other = let t = told_some q Plain q.plain n e other in record {
-  ssid = t.0;
-  fits = low t.0 t.1;
-  zero = λ same. cc;
-  third_is = t.2;
-  told = ap (λ (o : Option ℕ). is_told o t.0) t.1 ∙ eq-eqb t.0 t.0 refl;
-}
-
 pub told_auth : (q : Query) (n : ℕ) → ((s : ℕ) → q.auth ≡ Some s → s < 2 ^ 16) → n ≡ told_word q Auth q.auth → ¬ (n ≡ third_word q Twamp 0) → IsTold q n Auth
 told_auth q n low e other = let t = told_some q Auth q.auth n e other in record {
   ssid = t.0;

@@ -2,13 +2,13 @@
 
 ghost use Rattle.std.specs.Prelude.{◌≡◌, ℕ, ◌+◌, ◌-◌, ◌*◌, ◌/◌, ◌%◌, ◌<◌, ◌≤◌, ◌^◌, ◌==◌, ◌&&◌, true, false, IfSome, Some, None};
 ghost use Rattle.session_key.specs.Matching.{ssid_at, query_of, matches};
-ghost use Rattle.session_key.specs.Words.{AreKeyWords, mode_of, key_of_words, extra_of_words};
+ghost use Rattle.session_key.specs.Words.{AreKeyWords, key_of_words, extra_of_words};
 ghost use Rattle.refl_types.specs.Keys.{is_sound};
 ghost use Rattle.refl_types.specs.declared.types.Mode.{Mode};
 ghost use Rattle.session_table.specs.Sought.{first_word, second_word, IsTold};
 
 use refl_types::{Extra, Key, Meta, Mode, law_same};
-use session_key::{Query, auth_ssid, first_words, law_words, mode_in};
+use session_key::{Query, auth_ssid, first_words, law_words};
 use std::marker::Model;
 
 /// A datagram's query, and the words of the keys that it matches in the modes that are met most. Contracts see it as the query.
@@ -48,10 +48,8 @@ fn told(twamp: u64, less: u64, ssid: Option<u16>) -> u64
     }
 }
 
-/// The third word of a session of mode Auth with the SSID that a datagram tells, as `told` makes it. It stands out of line, since
-/// few sessions are authenticated.
-#[cold]
-#[inline(never)]
+/// The third word of a session of mode Auth with the SSID that a datagram tells, as `told` makes it.
+#[inline(always)]
 fn told_auth(twamp: u64, octets: &[u8]) -> u64
     requires low { 2 ≤ twamp }
     requires room { twamp + 65535 * 2 ^ 32 < 2 ^ 64 }
@@ -87,16 +85,19 @@ impl<'a> Sought<'a> {
         Query::of(self.meta, self.octets)
     }
 
-    /// Whether this third word is that of the session with the query's SSID, in the mode that the word tells.
+    /// The mode of the session that has this third word and the query's SSID. The word itself tells which it may be.
     #[inline(always)]
-    fn is_told(&self, third: u64) -> bool
-        ensures yes { result ≡ true → IsTold self.now third (mode_of (third / 2 % 2 ^ 15)) }
-        ensures no { result ≡ false → (m : Mode) → ¬ IsTold self.now third m }
+    fn mode(&self, third: u64) -> Option<Mode>
+        ensures some { IfSome result (IsTold self.now third) }
+        ensures none { result ≡ None → (m : Mode) → ¬ IsTold self.now third m }
     {
         match (third >> 1) % (1 << 15) {
-            0 => third == self.plain,
-            1 => third == told_auth(self.twamp, self.octets),
-            _ => third == self.twamp,
+            0 if third == self.plain => Some(Mode::Plain),
+            0 => None,
+            1 if third == told_auth(self.twamp, self.octets) => Some(Mode::Auth),
+            1 => None,
+            _ if third == self.twamp => Some(Mode::Twamp),
+            _ => None,
         }
     }
 
@@ -118,16 +119,14 @@ impl<'a> Sought<'a> {
         law_same();
         law_words();
         let third = words[2];
-        if !self.is_told(third) {
-            return None;
-        }
+        let mode = self.mode(third)?;
         if !self.has_address(words[0], words[1]) {
             return None;
         }
         Some(Key {
             local: self.meta.local,
             peer: self.meta.peer,
-            mode: mode_in(third),
+            mode,
             ssid: ((third >> 32) % (1 << 16)) as u16,
         })
     }

@@ -1,16 +1,21 @@
 -- The reply under what was seen and drawn is the reply of the entry that has it.
-use Rattle.std.proofs.Common.{◌≡◌, ℕ, ◌+◌, ◌-◌, ◌%◌, ◌^◌, ◌≤◌, List, ◌++◌, length, take, drop, sym, ap, ◌∙◌, arith}
+use Rattle.std.proofs.Common.{◌≡◌, ℕ, ◌+◌, ◌-◌, ◌%◌, ◌^◌, ◌≤◌, List, ◌++◌, length, take, drop, refl, sym, ap, ◌∙◌, arith}
 use borrow.Rule.Slice.PartMut.{put_mid}
 use Rattle.refl_types.specs.Limits.{datagram_limit}
 use Rattle.refl_types.specs.declared.types.Endpoint.{Endpoint}
 use Rattle.refl_types.specs.declared.types.Meta.{Meta}
+use Rattle.refl_types.specs.declared.types.Mode.{Mode}
+use Rattle.refl_types.specs.declared.types.Mode.TheVariants.{Plain}
 use Rattle.refl_types.specs.declared.types.Key.{Key}
 use Rattle.refl_types.specs.declared.types.Extra.{Extra}
 use Rattle.refl_types.specs.declared.config.ConfigParts.{ConfigParts}
 use Rattle.reflect_core.specs.declared.reflecting.Reply.{Reply}
-use Rattle.reflect_core.specs.Reflection.{Reflected, reflection, IsReply}
-use Rattle.replay_format.specs.Records.{datagram_of}
-use Rattle.replay_format.specs.Answers.{Sending, answer_octets, sent_octets}
+use Rattle.reflect_core.specs.declared.session.Draw.{Draw}
+use Rattle.reflect_core.specs.Arrived.{Arrived}
+use Rattle.reflect_core.specs.Ends.{ends_of}
+use Rattle.reflect_core.specs.Reflection.{Reflected, reflected_octets, reflection, IsReply}
+use Rattle.replay_format.specs.Records.{Datagram, datagram_of}
+use Rattle.replay_format.specs.Answers.{Sending, Sent, answer_octets, sent_octets}
 use Rattle.replay_format.proofs.AnswerFacts.{framed_behind}
 use Rattle.replay_table.specs.Table.{Entry}
 use Rattle.replay_table.specs.Reflection.{sending, sent_under, meta_of}
@@ -61,3 +66,31 @@ framed_sent locals k x c number m t3 octets reply old part new measured room lim
           ∙ ap (λ (y : Sending). length (sent_octets y)) (sym (sending_is locals e k x c number m t3 octets measured stands));
       fits = omega (arith, limit);
     }
+
+-- ---- in mode Plain nothing of a session matters but its mode
+
+same_octets : (m : Mode) (x y : Extra) (c : ConfigParts) (draw : Draw) (d : Arrived) → m ≡ Plain → reflected_octets m x c draw d ≡ reflected_octets m y c draw d
+unfolding reflected_octets
+same_octets m x y c draw d e = rw e refl
+
+same_reflection : (j k : Key) (x y : Extra) (c : ConfigParts) (draw : Draw) (d : Arrived) → j.mode ≡ Plain → k.mode ≡ Plain → reflection j x c draw d ≡ reflection k y c draw d
+same_reflection j k x y c draw d p q =
+    let mode : j.mode ≡ k.mode = p ∙ sym q in
+    let r : Mode → Extra → Reflected = λ m z. record { from = (ends_of m c d).from; to = (ends_of m c d).to; octets = reflected_octets m z c draw d } in
+    ap (λ (m : Mode). r m x) mode ∙ ap (λ (o : List ℕ). let s : Reflected = record { from = (ends_of k.mode c d).from; to = (ends_of k.mode c d).to; octets = o } in s) (same_octets k.mode x y c draw d q)
+
+same_sending : (locals : List Endpoint) (e : Entry) (j : Key) (y : Extra) (d : Datagram) → e.key.mode ≡ Plain → j.mode ≡ Plain → sending locals (record e { key = j; extra = y }) d ≡ sending locals e d
+unfolding sending
+same_sending locals e j y d p q = ap (sent_under (e.count % 2 ^ 32)) (same_reflection j e.key y e.extra e.config _ _ q p)
+
+pub plain_sent : (locals : List Endpoint) (j k : Key) (y x : Extra) (c : ConfigParts) (number : ℕ) (d : Datagram) (before written : List ℕ) (n : ℕ) → j.mode ≡ Plain → k.mode ≡ Plain
+    → IsSent locals j y c number d before written n → IsSent locals k x c number d before written n
+plain_sent locals j k y x c number d before written n p q sent = record {
+  octets = λ e is.
+      let same = same_sending locals e j y d (ap (λ (i : Key). i.mode) is.key ∙ q) p in
+      sent.octets (record e { key = j; extra = y }) (record { key = refl; extra = refl; config = is.config; count = is.count }) ∙ ap (λ (s : Sending). answer_octets (Sent s) ++ drop n before) same;
+  len = λ e is.
+      let same = same_sending locals e j y d (ap (λ (i : Key). i.mode) is.key ∙ q) p in
+      sent.len (record e { key = j; extra = y }) (record { key = refl; extra = refl; config = is.config; count = is.count }) ∙ ap (λ (s : Sending). length (answer_octets (Sent s))) same;
+  fits = sent.fits;
+}

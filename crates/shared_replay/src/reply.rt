@@ -2,7 +2,9 @@
 
 ghost use Rattle.std.specs.Prelude.{◌≡◌, ◌≤◌, List, length};
 ghost use Rattle.refl_types.specs.declared.types.Endpoint.{Endpoint};
-ghost use Rattle.refl_types.specs.HmacKey.{HasHmacKey};
+ghost use Rattle.refl_types.specs.declared.types.Extra.{Extra};
+ghost use Rattle.refl_types.specs.declared.types.Key.{Key};
+ghost use Rattle.refl_types.specs.declared.types.Mode.TheVariants.{Plain};
 ghost use Rattle.refl_types.specs.Limits.{datagram_limit};
 ghost use Rattle.reflect_core.specs.Judgement.{IsUsualPlain, judgement};
 ghost use Rattle.reflect_core.specs.declared.judging.Judged.TheVariants.{Reflect};
@@ -12,10 +14,16 @@ ghost use Rattle.shared_replay.specs.Turn.{IsReflected, IsSent, MaybeSent};
 use crate::judging::reflects_still;
 use crate::sessions::ANSWER_ROOM;
 use keyed_config::KeyedConfig;
-use refl_types::{LocalAddr, Meta};
-use reflect_core::{Datagram, Draw, Session};
+use refl_types::{Extra, Key, LocalAddr, Meta, Mode};
+use reflect_core::{Datagram, Draw, Judged, Session};
 use replay_format::{REPLY_AT, frame_reply};
 use session_table::Sight;
+
+/// An extra that doesn't matter, in mode Plain.
+const NO_EXTRA: Extra = Extra {
+    symmetrical: false,
+    reflect: 0,
+};
 
 /// Writes the answer, reply included, under the number that was drawn, and says how many octets it has.
 #[inline(always)]
@@ -113,12 +121,11 @@ pub fn write_drawn(
     Some(write_sent(&session, number, meta, t3, octets, locals, out))
 }
 
-/// The same, out of line.
+/// Writes the answer under a row by which no datagram of a session of mode Plain was judged yet, and says how many octets it has,
+/// where the datagram is reflected. Nothing of the session matters but its mode. It stands out of line.
 #[cold]
 #[inline(never)]
 fn write_apart(
-    sight: Sight,
-    row: u32,
     config: &KeyedConfig,
     number: u32,
     meta: Meta,
@@ -127,23 +134,34 @@ fn write_apart(
     locals: &[LocalAddr],
     out: &mut [u8],
 ) -> Option<usize>
-    requires same { sight.row ≡ row → IsReflected sight.key.mode config.now octets.now }
     requires measured { meta.len ≡ length octets.now }
     requires limit { length octets.now ≤ datagram_limit }
     requires locals { length locals.now ≤ 16 }
     requires room { ANSWER_ROOM ≤ length out.old }
-    ensures { MaybeSent locals.now sight.key sight.extra config.now number (datagram_of meta t3 octets.now) out.old out.new result }
+    ensures { (k : Key) (x : Extra) → k.mode ≡ Plain → MaybeSent locals.now k x config.now number (datagram_of meta t3 octets.now) out.old out.new result }
 {
-    write_drawn(
-        &sight, row, config, number, &meta, t3, octets, locals, out,
-    )
+    let key = Key {
+        local: meta.local,
+        peer: meta.peer,
+        mode: Mode::Plain,
+        ssid: 0,
+    };
+    let session = Session {
+        key: &key,
+        extra: &NO_EXTRA,
+        config,
+    };
+    match session.judge(octets) {
+        Judged::Reflect => Some(write_sent(
+            &session, number, &meta, t3, octets, locals, out,
+        )),
+        Judged::Silent(_) => None,
+    }
 }
 
 /// The same by `write_apart`. What is lent is copied for it here, and so stays in registers where rows don't change.
 #[inline(always)]
 pub fn write_changed(
-    sight: &Sight,
-    row: u32,
     config: &KeyedConfig,
     number: u32,
     meta: &Meta,
@@ -152,14 +170,11 @@ pub fn write_changed(
     locals: &[LocalAddr],
     out: &mut [u8],
 ) -> Option<usize>
-    requires same { sight.now.row ≡ row → IsReflected sight.now.key.mode config.now octets.now }
     requires measured { meta.now.len ≡ length octets.now }
     requires limit { length octets.now ≤ datagram_limit }
     requires locals { length locals.now ≤ 16 }
     requires room { ANSWER_ROOM ≤ length out.old }
-    ensures { MaybeSent locals.now sight.now.key sight.now.extra config.now number (datagram_of meta.now t3 octets.now) out.old out.new result }
+    ensures { (k : Key) (x : Extra) → k.mode ≡ Plain → MaybeSent locals.now k x config.now number (datagram_of meta.now t3 octets.now) out.old out.new result }
 {
-    write_apart(
-        *sight, row, config, number, *meta, t3, octets, locals, out,
-    )
+    write_apart(config, number, *meta, t3, octets, locals, out)
 }

@@ -64,8 +64,7 @@ fn turn_usual(
     if row == sight.row {
         return Ok(write_usual(sight, config, n, meta, t3, octets, out));
     }
-    write_changed(sight, row, config, n, meta, t3, octets, locals, out)
-        .ok_or(UnsentCause::NoSession)
+    write_changed(config, n, meta, t3, octets, locals, out).ok_or(UnsentCause::NoSession)
 }
 
 /// Answers a datagram of the session that was found, out of line.

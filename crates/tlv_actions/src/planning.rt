@@ -208,7 +208,10 @@ pub fn may_redirect(config: &Config) -> bool
     ensures { result ≡ (is_understood config.now destination_node_address || is_understood config.now return_path) }
 {
     let parts = config.as_parts();
-    is_understood(parts, DESTINATION_NODE_ADDRESS) || is_understood(parts, RETURN_PATH)
+    // Both are asked at once, for one test of their bits.
+    let destination = is_understood(parts, DESTINATION_NODE_ADDRESS);
+    let path = is_understood(parts, RETURN_PATH);
+    destination || path
 }
 
 /// From where and to whom the reply to a datagram is sent, by the Destination Node Address and the Return Path of its

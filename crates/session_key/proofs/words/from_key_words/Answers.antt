@@ -13,7 +13,7 @@ unfolding key_of_words
 returns-clause-key c =
     let n = get_or c.args.words.now 2 0 in
     let address = c.address_of.ensures in
-    let mode = c.mode_in.ensures in
+    let mode = c.mode_of.ensures in
     λ i. record { local = n / 2 ^ 16 % 2 ^ 16; peer = record { address = address i; port = n / 2 ^ 48 }; mode = mode i; ssid = n / 2 ^ 32 % 2 ^ 16 }
 
 pub returns-clause-extra : goal.returns-clause-extra

@@ -102,4 +102,4 @@ returns-clause-turned c = λ old found.
     let reflects : IsReflected s.key.mode c.config.result.now d.octets = subst (λ (r : Result (Unit {0}) UnsentCause). IsJudged s.key.mode c.config.result.now c.args.octets.now r) c.in_default.is c.judge_usual.ensures in
     subst (Turned z old c.draw_by-drawn.new.known xs c.args.locals.now d c.args.out.now c.write_changed.new.out) (sym c.ok_or.ensures.value)
     (drawn_turn z d c.args.locals.now c.args.out.now c.write_changed.new.out old c.args.known.now c.draw_by-drawn.new.known at on xs s c.config.result.now c.in-Number.n c.in-Number.row c.config-config.result.now saw drawn c.retire-2.ensures.answers reflects
-    c.write_changed.result c.write_changed.ensures)
+    c.write_changed.result (c.write_changed.ensures s.key s.extra (c.requires.usual c.config.result.now c.config.ensures).0))
