@@ -42,7 +42,12 @@ pub tail_by : (mode : Mode) (c : ConfigParts) (facts : Facts) (asked answered ta
 unfolding tail_reply
 tail_by mode c facts asked answered tail i e = ap (λ (j : Integrity). reply_by j c facts answered (split tail)) e
 
--- and its integrity hasn't failed
+-- where there is no HMAC key, there is nothing to check
+pub integrity_unkeyed : (mode : Mode) (c : ConfigParts) (sequence tail : List ℕ) → c.key ≡ None → integrity mode c sequence tail ≡ Absent
+unfolding integrity
+integrity_unkeyed mode c sequence tail e = ap (λ (k : Option (List ℕ)). integrity_under mode k sequence tail) e
+
+-- the integrity of a tail without octets hasn't failed
 pub intact_empty : (at : ℕ) (mode : Mode) (c : ConfigParts) (octets : List ℕ) → drop at octets ≡ [] → true ≡ has_intact_tail at mode c octets
 intact_empty at mode c octets none =
     let asked = field 0 4 octets in

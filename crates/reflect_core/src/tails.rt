@@ -90,8 +90,8 @@ fn process(config: &KeyedConfig, number: u32, plan: &Plan, tail: &[u8], out: &mu
 
 /// Writes the tail of a reply, under the Sequence Numbers of the request and of the reply, and says whether the
 /// integrity of the request's tail hasn't failed.
-#[inline(always)]
-fn write_tail(
+#[inline(never)]
+fn write_checked(
     mode: Mode,
     config: &KeyedConfig,
     number: u32,
@@ -122,6 +122,31 @@ fn write_tail(
     }
 }
 
+/// The same, where most configurations have no HMAC key, so that there is nothing to check or to seal.
+#[inline(always)]
+fn write_tail(
+    mode: Mode,
+    config: &KeyedConfig,
+    number: u32,
+    plan: &Plan,
+    asked: &[u8; 4],
+    answered: &[u8; 4],
+    tail: &[u8],
+    out: &mut [u8],
+) -> bool
+    requires { length out.old ≡ length tail.now }
+    ensures octets { out.new ≡ tail_reply mode config.now (record { n = number; plan = plan.now }) asked.now answered.now tail.now }
+    ensures intact { result ≡ is_intact (integrity mode config.now asked.now tail.now) }
+{
+    match config.hmac_key() {
+        None => {
+            process(config, number, plan, tail, out);
+            true
+        }
+        Some(_) => write_checked(mode, config, number, plan, asked, answered, tail, out),
+    }
+}
+
 /// The octets of the Sequence Number of a request, where they stand.
 #[inline(always)]
 fn asked_octets(input: &[u8]) -> &[u8; 4]
@@ -132,8 +157,8 @@ fn asked_octets(input: &[u8]) -> &[u8; 4]
 }
 
 /// Writes the tail of a reply after its base packet, which has as many octets as the request's, and says whether the
-/// integrity of the request's tail hasn't failed. It stands out of line, since most datagrams have no tail.
-#[inline(never)]
+/// integrity of the request's tail hasn't failed.
+#[inline(always)]
 fn write_tail_at(
     mode: Mode,
     config: &KeyedConfig,
@@ -166,7 +191,7 @@ fn write_tail_at(
 }
 
 /// Writes the tail of a reply after its base packet, if there is one, and says whether the integrity of the request's
-/// tail hasn't failed.
+/// tail hasn't failed. Most datagrams have no tail.
 #[inline(always)]
 pub fn write_tail_after(
     mode: Mode,
