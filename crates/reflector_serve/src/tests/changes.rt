@@ -8,6 +8,7 @@ use super::{answered, run};
 use crate::Report;
 use control_desk::{DeskEnd, DeskTally};
 use receive_worker::Tally;
+use std::alloc::Global;
 use std::process::Abort;
 
 /// Four configurations, and the session of no file.
@@ -169,6 +170,65 @@ fn a_request_is_judged_and_its_reply_signed_under_the_key_of_the_day(rt: HostRun
         ..answered(2)
     };
     expect_report(&rt, &report, &[tally], 4, 0, 1);
+}
+
+const TYPES: &str =
+    "locals = [\"192.0.2.10:862\"]\nslots = 1\n[configs]\nedge = {}\nbare = { tlvs = [] }\npaths = { tlvs = [10] }\n";
+
+/// Direct Measurement of a sender, which comes back so where it isn't understood, and that of reply 0 (RFC 8972, section
+/// 4.5).
+const MEASURES: [u8; 16] = [0x80, 5, 0, 12, 0, 0, 0, 9, 0, 0, 0, 0, 0, 0, 0, 0];
+
+const MEASURED: [u8; 16] = [0, 5, 0, 12, 0, 0, 0, 9, 0, 0, 0, 1, 0, 0, 0, 0];
+
+/// A Return Path whose Control Code asks for no reply (RFC 9503, section 4.1.1).
+const WANTS_NO_REPLY: [u8; 12] = [0x80, 10, 0, 8, 0x80, 1, 0, 4, 0, 0, 0, 0];
+
+/// A base packet with a tail.
+fn with_tail(rt: &impl Abort, alloc: Global, base: &[u8], tail: &[u8]) -> Vec<u8> {
+    let mut octets = Vec::from_slice(alloc, base).expect(rt, "a packet");
+    octets.extend_from_slice(tail).expect(rt, "room");
+    octets
+}
+
+#[test]
+fn a_tail_is_answered_by_the_types_of_the_day(rt: HostRuntime) {
+    let alloc = rt.alloc();
+    let from = sender(5000);
+    let measures = with_tail(&rt, alloc, &PLAIN, &MEASURES);
+    let wants_no_reply = with_tail(&rt, alloc, &PLAIN, &WANTS_NO_REPLY);
+    let mut desk = DeskSide::new(&rt, alloc);
+    let mut port = PortSide::new(alloc);
+    port.tells(&rt, 0);
+    desk.opens_operator(&rt, 0);
+    desk.line(&rt, 1, OPENS, b"ok\n");
+    port.takes(&rt, 2, &from, &measures);
+    let reply = with_tail(&rt, alloc, &ntp_reply(0, 1), &MEASURED);
+    port.sends(&rt, SENDING, &from, &reply);
+    desk.line(&rt, 3, b"set 0 192.0.2.1:5000 plain 7 bare\n", b"ok\n");
+    port.takes(&rt, 4, &from, &measures);
+    let reply = with_tail(&rt, alloc, &ntp_reply(1, 1), &MEASURES);
+    port.sends(&rt, SENDING, &from, &reply);
+    desk.line(&rt, 5, b"set 0 192.0.2.1:5000 plain 7 paths\n", b"ok\n");
+    port.takes(&rt, 6, &from, &wants_no_reply);
+    desk.line(&rt, 7, b"set 0 192.0.2.1:5000 plain 7 bare\n", b"ok\n");
+    port.takes(&rt, 8, &from, &wants_no_reply);
+    let reply = with_tail(&rt, alloc, &ntp_reply(2, 1), &WANTS_NO_REPLY);
+    port.sends(&rt, SENDING, &from, &reply);
+    desk.line(&rt, 9, b"quit\n", b"bye\n");
+
+    let order = Order::new(&rt, alloc);
+    let mut ports = [port.port(&rt, &order)];
+    let mut desk = desk.desk(&rt, &order);
+    let report = run(&rt, alloc, TYPES, &mut ports, &mut desk).expect(&rt, "a report");
+    ports[0].expect_done(&rt, alloc);
+    desk.expect_done(&rt, alloc);
+    let tally = Tally {
+        taken: 4,
+        no_reply: 1,
+        ..answered(3)
+    };
+    expect_report(&rt, &report, &[tally], 6, 0, 1);
 }
 
 const TWO_WORKERS: &str =
