@@ -3,7 +3,7 @@
 ghost use Rattle.std.specs.Prelude.{◌≡◌, ◌+◌, ◌≤◌, ◌++◌, length, take, drop};
 
 /// Writes a field at a place. All other octets stay.
-#[inline(always)]
+#[inline]
 pub fn put(out: &mut [u8], at: usize, field: &[u8])
     requires { at + length field.now ≤ length out.old }
     ensures { out.new ≡ take at out.old ++ field.now ++ drop (at + length field.now) out.old }
@@ -16,7 +16,7 @@ pub fn put(out: &mut [u8], at: usize, field: &[u8])
 }
 
 /// Writes a field that is passed by value at its place, so that it needn't stand elsewhere in memory. All other octets stay.
-#[inline(always)]
+#[inline]
 pub fn put_array<const N: usize>(out: &mut [u8], at: usize, field: [u8; N])
     requires { at + length field ≤ length out.old }
     ensures { out.new ≡ take at out.old ++ field.entry ++ drop (at + length field.entry) out.old }
