@@ -116,7 +116,7 @@ impl Session<'_> {
 
     /// Judges a datagram as `judge` does, in a session of mode Twamp.
     #[inline(always)]
-    pub fn judge_test(&self, octets: &[u8]) -> Judged
+    fn judge_test(&self, octets: &[u8]) -> Judged
         requires { self.now.key.now.mode ≡ Twamp }
         ensures { result ≡ judgement self.now.key.now.mode self.now.config.now octets.now }
     {

@@ -170,7 +170,7 @@ fn reflect_test(
 impl Session<'_> {
     /// Whether a tail of the session may say from where and to whom its reply is sent.
     #[inline(always)]
-    pub fn may_redirect(&self) -> bool
+    pub(crate) fn may_redirect(&self) -> bool
         ensures { result ≡ may_redirect self.now.config.now }
     {
         may_redirect(self.config.config())
@@ -197,7 +197,7 @@ impl Session<'_> {
     /// it has: in mode Twamp, and where `may_redirect` is false. It is sent from where the datagram arrived to its sender,
     /// whatever the reflector's own addresses are.
     #[inline(always)]
-    pub fn reflect_usual(&self, meta: &Meta, octets: &[u8], draw: &Draw, out: &mut [u8]) -> usize
+    fn reflect_usual(&self, meta: &Meta, octets: &[u8], draw: &Draw, out: &mut [u8]) -> usize
         requires usual { (self.now.key.now.mode ≡ Twamp → ⊥) → may_redirect self.now.config.now ≡ false }
         requires judged { judgement self.now.key.now.mode self.now.config.now octets.now ≡ Reflect }
         requires limit { length octets.now ≤ datagram_limit }
