@@ -152,9 +152,7 @@ fn write_apart(
         config,
     };
     match session.judge(octets) {
-        Judged::Reflect => Some(write_sent(
-            &session, number, &meta, t3, octets, locals, out,
-        )),
+        Judged::Reflect => Some(write_sent(&session, number, &meta, t3, octets, locals, out)),
         Judged::Silent(_) => None,
     }
 }

@@ -101,8 +101,9 @@ fn turn_apart(
         return Err(UnsentCause::NoSession);
     };
     let config = known.config(row);
-    write_drawn(&sight, row, config, n, &meta, t3, octets, locals, out)
-        .ok_or(UnsentCause::NoSession)
+    write_drawn(&sight, row, config, n, &meta, t3, octets, locals, out).ok_or(
+        UnsentCause::NoSession,
+    )
 }
 
 /// The same by `turn_apart`. What is lent is copied for it here, and so stays in registers where it isn't called.
@@ -128,9 +129,7 @@ fn turn_other(
     ensures number { worker_number worker.new ≡ worker_number worker.old }
     ensures turned { (old : Places) → HasFound (size_of table.now) old known.old (worker_steps worker.old) (datagram_of meta.now t3 octets.now) sight.now → Turned (size_of table.now) old known.new (worker_steps worker.new) locals.now (datagram_of meta.now t3 octets.now) out.old out.new result }
 {
-    turn_apart(
-        table, worker, known, *sight, *meta, t3, octets, locals, out,
-    )
+    turn_apart(table, worker, known, *sight, *meta, t3, octets, locals, out)
 }
 
 /// Finds the session of a datagram, and where it is reflected draws a number and writes the answer, whose length it says.
@@ -160,13 +159,9 @@ fn turn(
         return Err(UnsentCause::NoSession);
     };
     if is_usual_plain(sight.key.mode, known.config(sight.row)) {
-        return turn_usual(
-            table, worker, known, &sight, meta, t3, octets, locals, out,
-        );
+        return turn_usual(table, worker, known, &sight, meta, t3, octets, locals, out);
     }
-    turn_other(
-        table, worker, known, &sight, meta, t3, octets, locals, out,
-    )
+    turn_other(table, worker, known, &sight, meta, t3, octets, locals, out)
 }
 
 /// Writes why a datagram is not reflected.

@@ -45,11 +45,11 @@ config-config-requires c =
 
 pub write_drawn-requires-clause-same : goal.write_drawn-requires-clause-same
 write_drawn-requires-clause-same c = λ e.
-      let d : Datagram = datagram_of c.args.meta c.args.t3 c.args.octets.now in
-      let s = c.args.sight in
-      let k = (c.in-Number.ensures.draws (query_for d) c.requires.found.1.sees.saw.held).knows in
-      let one = one_row c.args.known.now c.draw_by-drawn.new.known _ _ s c.in-Number.row c.config.result.now c.config-config.result.now k c.config.ensures c.config-config.ensures e in
-      subst (λ (x : ConfigParts). IsReflected s.key.mode x c.args.octets.now) one (subst (λ (r : Result (Unit {0}) UnsentCause). IsJudged s.key.mode c.config.result.now c.args.octets.now r) c.in_default.is c.judge.ensures)
+    let d : Datagram = datagram_of c.args.meta c.args.t3 c.args.octets.now in
+    let s = c.args.sight in
+    let k = (c.in-Number.ensures.draws (query_for d) c.requires.found.1.sees.saw.held).knows in
+    let one = one_row c.args.known.now c.draw_by-drawn.new.known _ _ s c.in-Number.row c.config.result.now c.config-config.result.now k c.config.ensures c.config-config.ensures e in
+    subst (λ (x : ConfigParts). IsReflected s.key.mode x c.args.octets.now) one (subst (λ (r : Result (Unit {0}) UnsentCause). IsJudged s.key.mode c.config.result.now c.args.octets.now r) c.in_default.is c.judge.ensures)
 
 pub returns-clause-turned : goal.returns-clause-turned
 returns-clause-turned c = λ old found.
