@@ -1,7 +1,6 @@
 //! What happens at a desk, each at its place in an order, and what the desk does for it.
 
-ghost use Rattle.std.specs.Prelude.{◌≡◌, All, OnOk, OnErr};
-ghost use Rattle.port_io.specs.Outside.{Rises};
+ghost use Rattle.std.specs.Prelude.{◌≡◌, All};
 ghost use Rattle.net_io.specs.Desk.{octet_count};
 ghost use Rattle.net_io.specs.ScriptDesk.{IsWhole};
 
