@@ -43,7 +43,7 @@ at_first t f moment b new = record {
 
 -- ---- what the file uses
 
-in_sessions : (twamp : Option ConfigParts) (sessions : List Provided) (c : ConfigParts) → list_any (same_config c) (session_configs sessions) ≡ true → list_any (same_config c) (in_use twamp sessions) ≡ true
+pub in_sessions : (twamp : Option ConfigParts) (sessions : List Provided) (c : ConfigParts) → list_any (same_config c) (session_configs sessions) ≡ true → list_any (same_config c) (in_use twamp sessions) ≡ true
 in_sessions None sessions c some = some
 in_sessions (Some d) sessions c some = or_r (same_config c d) _ some
 

@@ -3,4 +3,6 @@ mod RoomFacts
 mod UsedFacts
 mod NextFacts
 mod RefusedFacts
+mod OpensFacts
 mod Ends
+mod OnlyUsed

@@ -1,2 +1,4 @@
+pub mod Opening
 pub mod Opened
 pub mod OpenedFirst
+pub mod Used

@@ -1,8 +1,10 @@
 //! The sessions of the file, opened in the desk's book before anybody is served.
 #![tactic(auto)]
 
-ghost use Rattle.std.specs.Prelude.{◌≡◌, ◌+◌, ◌<◌, length, IfOk};
+ghost use Rattle.std.specs.Prelude.{◌≡◌, ◌+◌, ◌<◌, length, take, IfOk};
 ghost use Rattle.session_rule.specs.Seats.{size_of};
+ghost use Rattle.session_desk.specs.Book.{Book};
+ghost use Rattle.file_opening.specs.Opening.{OpensAll, OpensFile};
 ghost use Rattle.file_opening.specs.Opened.{size_in, IsNewBook, HasOpened};
 ghost use Rattle.file_opening.specs.OpenedFirst.{HasOpenedFirst};
 ghost use Rattle.session_desk.specs.Going.{DeskWent};
@@ -13,8 +15,11 @@ use session_desk::DeskBook;
 use session_rule::{Table, TableSize, open_table};
 use std::alloc::Global;
 
+mod laws;
 #[cfg(test)]
 mod tests;
+
+pub use laws::law_only_used;
 
 /// A table of the file's size, and its book.
 pub fn new_table(alloc: Global, conf: &Conf) -> Result<(Table, DeskBook), Memory>
@@ -40,6 +45,7 @@ fn open_session(table: &Table, book: &mut DeskBook, conf: &Conf, index: usize, m
     requires inside { index < length conf.now.sessions }
     requires first { HasOpenedFirst table.now conf.now moment index book.old }
     ensures went { DeskWent table.now book.old book.new }
+    ensures opens { (first : Book) → OpensAll table.now moment (take index conf.now.sessions) first book.old → OpensAll table.now moment (take (index + 1) conf.now.sessions) first book.new }
     ensures next { HasOpenedFirst table.now conf.now moment (index + 1) book.new }
 {
     let session = &conf.sessions()[index];
@@ -61,7 +67,8 @@ fn open_session(table: &Table, book: &mut DeskBook, conf: &Conf, index: usize, m
 /// nanoseconds since the start of 1970; and gives the configuration `twamp` a row, where the file has one. None is refused.
 pub fn open_sessions(table: &Table, book: &mut DeskBook, conf: &Conf, moment: u64)
     requires new { IsNewBook table.now conf.now book.old }
-    ensures { HasOpened table.now conf.now moment book.old book.new }
+    ensures opens { OpensFile table.now conf.now moment book.old book.new }
+    ensures opened { HasOpened table.now conf.now moment book.old book.new }
 {
     for index in 0..conf.sessions().len() {
         open_session(table, book, conf, index, moment);

@@ -12,7 +12,7 @@ use Rattle.reflector_serve.specs.declared.report.Report.{Report}
 use Rattle.reflector_serve.specs.Served.{DeskView, Served}
 use Rattle.file_service.specs.declared.ends.RunEnd.{RunEnd}
 use Rattle.file_service.specs.declared.ends.RunEnd.TheVariants.{Done, PortFailed, DeskFailed, BudgetSpent}
-use Rattle.file_service.specs.Ends.{is_port_fault, is_spent, end_by, run_end, TellsEnd, NoneSpent}
+use Rattle.file_service.specs.Ends.{is_port_fault, is_spent, end_by, run_end, TellsEnd}
 use Rattle.file_service.specs.Service.{HasRisen, OneHasFailed, WritesReport, HasServed, HasClosedDesk, NothingFails}
 use Rattle.file_service.proofs.PortFaults.{port_failed, risen}
 use Rattle.file_service.proofs.DeskFaults.{desk_failed}
@@ -55,16 +55,6 @@ by_desk desk.Quit true spent h = absurd cc
 by_desk desk.Quit false true h = absurd cc
 by_desk desk.Quit false false h = absurd cc
 
-by_budget : (d : DeskEnd) (failed spent : Bool) → (d ≡ desk.Budget → ⊥) → spent ≡ false → end_by d failed spent ≡ BudgetSpent → ⊥
-by_budget desk.Fault failed spent n s h = cc
-by_budget desk.Budget failed spent n s h = n refl
-by_budget desk.End true spent n s h = cc
-by_budget desk.End false true n s h = cc
-by_budget desk.End false false n s h = cc
-by_budget desk.Quit true spent n s h = cc
-by_budget desk.Quit false true n s h = cc
-by_budget desk.Quit false false n s h = cc
-
 -- ---- a run
 
 module _ {P S D T : Type 0} (v : PortView P S) (w : DeskView D T) (f : File) (ps qs : List P) (d e : D) where
@@ -78,9 +68,6 @@ module _ {P S D T : Type 0} (v : PortView P S) (w : DeskView D T) (f : File) (ps
       let fault = by_desk r.desk.end (list_any (λ t. is_port_fault t.end) r.workers.items) (list_any (λ t. is_spent t.end) r.workers.items) end in
       omega (arith, desk_failed w s.table f d e s.at_split s.at_end r.desk s.desk fault)
 
-  budget_end : (r : Report) → NoneSpent r → run_end r ≡ BudgetSpent → ⊥
-  budget_end r n end = by_budget r.desk.end (list_any (λ t. is_port_fault t.end) r.workers.items) (list_any (λ t. is_spent t.end) r.workers.items) n.calls n.workers end
-
   module _ (written written' : Option (List ℕ)) (faults faults' : ℕ) where
     -- where a run ended with 9, a port's count of failures has risen
     pub run_failed : HasServed v w f ps qs d e 9 written written' faults faults' → OneHasFailed v ps qs
@@ -93,15 +80,15 @@ module _ {P S D T : Type 0} (v : PortView P S) (w : DeskView D T) (f : File) (ps
     pub desk_opening_failed : HasClosedDesk v w ps qs d e written written' faults faults' → HasRisen (w.faults d) (w.faults e)
     desk_opening_failed h = risen (w.faults d) (w.faults e) h.desk.faults
 
-    -- where nothing failed and no budget was spent, a report ends with 0
-    pub none_failed : (r : Report) (status : ℕ) → Served v w f ps qs d e r → WritesReport r status written written' faults faults' → NothingFails v w f ps qs d e faults faults' → status ≡ 0
+    -- where nothing failed, a report ends with 0 or 11
+    pub none_failed : (r : Report) (status : ℕ) → Served v w f ps qs d e r → WritesReport r status written written' faults faults' → NothingFails v w ps qs d e faults faults' → (status ≡ 0) ⊎ (status ≡ 4) ⊎ (status ≡ 11)
     none_failed r status s h none = by (run_end r) refl h.end
       where
-        by : (k : RunEnd) → run_end r ≡ k → TellsEnd k status h.reported written' faults faults' → status ≡ 0
-        by Done end told = told.0
+        by : (k : RunEnd) → run_end r ≡ k → TellsEnd k status h.reported written' faults faults' → (status ≡ 0) ⊎ (status ≡ 4) ⊎ (status ≡ 11)
+        by Done end told = inl told.0
         by PortFailed end told = absurd (none.ports (port_end r s end))
         by DeskFailed end told = absurd (none.desk_calls (desk_end r s end))
-        by BudgetSpent end told = absurd (budget_end r (none.budgets r s) end)
+        by BudgetSpent end told = inr (inr told.0)
 
     -- a report that was written with a status of its end
     pub served_with : (r : Report) (n status : ℕ) → status ≡ n → (n ≡ 4 → ⊥) → (n ≡ 8 → ⊥) → Served v w f ps qs d e r

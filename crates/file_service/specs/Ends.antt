@@ -36,11 +36,6 @@ end_by desk.Quit failed spent = if failed then PortFailed else if spent then Bud
 abbrev pub run_end : Report → RunEnd
 run_end r = end_by r.desk.end (list_any (λ t. is_port_fault t.end) r.workers.items) (list_any (λ t. is_spent t.end) r.workers.items)
 
--- no worker and not the desk made as many calls as it may
-pub record NoneSpent (r : Report) : Type 0 where
-  pub workers : list_any (λ t. is_spent t.end) r.workers.items ≡ false
-  pub calls : r.desk.end ≡ desk.Budget → ⊥
-
 abbrev pub report_text : Report → List ℕ
 report_text r = text.report_text r.workers.items r.desk r.live
 

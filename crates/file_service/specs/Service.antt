@@ -11,7 +11,7 @@ use Rattle.conf_check.specs.Writing.{WritesLine}
 use Rattle.reflector_serve.specs.Ports.{PortView, OneFails}
 use Rattle.reflector_serve.specs.Served.{DeskView, AreQuiet, HasNotOpened, Served}
 use Rattle.reflector_serve.specs.declared.report.Report.{Report}
-use Rattle.file_service.specs.Ends.{run_end, NoneSpent, report_text, port_line, desk_line, TellsEnd}
+use Rattle.file_service.specs.Ends.{run_end, report_text, port_line, desk_line, TellsEnd}
 
 -- a count of failures has risen, or stands at its last value or behind it
 abbrev pub HasRisen : ℕ → ℕ → Type 0
@@ -60,12 +60,11 @@ pub record HasClosedDesk {P S D T : Type 0} (v : PortView P S) (w : DeskView D T
 abbrev pub HasTooFewPorts : File → ℕ → Option (List ℕ) → Option (List ℕ) → ℕ → ℕ → Type 0
 HasTooFewPorts f count written written' faults faults' = (count < f.workers) × WritesLine (fault_line (Limit (codes "workers"))) written written' faults faults'
 
--- no write, no port and no call of the desk failed, and whatever report tells of such a run, no budget was spent in it
-pub record NothingFails {P S D T : Type 0} (v : PortView P S) (w : DeskView D T) (f : File) (ps qs : List P) (d e : D) (faults faults' : ℕ) : Type 0 where
+-- no write, no port and no call of the desk failed
+pub record NothingFails {P S D T : Type 0} (v : PortView P S) (w : DeskView D T) (ps qs : List P) (d e : D) (faults faults' : ℕ) : Type 0 where
   pub writes : Rises faults faults' → ⊥
   pub ports : OneHasFailed v ps qs → ⊥
   pub desk_calls : HasRisen (w.faults d) (w.faults e) → ⊥
-  pub budgets : (report : Report) → Served v w f ps qs d e report → NoneSpent report
 
 -- the content of the name was accepted, with no more workers than ports, and this is so of its file
 abbrev pub OfFile : {P : Type 0} → Option (List port.File) → List ℕ → List P → (File → Type 0) → Type 0

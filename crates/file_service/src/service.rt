@@ -93,7 +93,7 @@ fn serve_conf<R: Threads + Sync, K: Sink, P: Port + Send, D: Desk>(
     ensures budget_spent { result ≡ 11 → HasServed (port_view P.log P.coming P.bound P.made P.faults) (desk_view D.log D.coming D.made D.faults) conf.now ports.old ports.new desk.old desk.new 11 (K.written out.old) (K.written out.new) (K.faults out.old) (K.faults out.new) }
     ensures port_cause { result ≡ 9 → OneHasFailed (port_view P.log P.coming P.bound P.made P.faults) ports.old ports.new }
     ensures desk_cause { result ≡ 10 → HasRisen (D.faults desk.old) (D.faults desk.new) }
-    ensures complete { NothingFails (port_view P.log P.coming P.bound P.made P.faults) (desk_view D.log D.coming D.made D.faults) conf.now ports.old ports.new desk.old desk.new (K.faults out.old) (K.faults out.new) → (result ≡ 0) ⊎ (result ≡ 4) }
+    ensures complete { NothingFails (port_view P.log P.coming P.bound P.made P.faults) (desk_view D.log D.coming D.made D.faults) ports.old ports.new desk.old desk.new (K.faults out.old) (K.faults out.new) → (result ≡ 0) ⊎ (result ≡ 4) ⊎ (result ≡ 11) }
 {
     match serve(rt, alloc, conf, ports, desk) {
         Ok(report) => tell_report(alloc, &report, out),
@@ -138,15 +138,15 @@ pub fn run_file<R: Threads + Sync, K: Sink, F: Files, P: Port + Send, D: Desk>(
     ensures port_cause { result ≡ 9 → OneHasFailed (port_view P.log P.coming P.bound P.made P.faults) ports.old ports.new }
     ensures desk_cause { result ≡ 10 → HasRisen (D.faults desk.old) (D.faults desk.new) }
 
-    // Where no load fails, the content decides whether it is served; and what is served ends with 0 where nothing else fails
-    // and no budget is spent. Memory alone is free.
+    // Where no load fails, the content decides whether it is served; and what is served ends with 0 where nothing else fails,
+    // or with 11 where a budget is spent. Memory alone is free.
     ensures refused { (fs : List port.File) (text : List ℕ) → F.files files.old ≡ Some fs → content name.now fs ≡ Some text → (Rises (F.faults files.old) (F.faults files.new) → ⊥)
         → (content_status text ≡ 0 → ⊥) → (result ≡ content_status text) ⊎ (result ≡ 4) }
     ensures crowded { (fs : List port.File) (text : List ℕ) (f : File) → F.files files.old ≡ Some fs → content name.now fs ≡ Some text → (Rises (F.faults files.old) (F.faults files.new) → ⊥)
         → length text ≤ file_limit → file_in text ≡ Ok f → length ports.old < f.workers → (result ≡ 3) ⊎ (result ≡ 4) }
     ensures complete { (fs : List port.File) (text : List ℕ) (f : File) → F.files files.old ≡ Some fs → content name.now fs ≡ Some text → (Rises (F.faults files.old) (F.faults files.new) → ⊥)
         → length text ≤ file_limit → file_in text ≡ Ok f → f.workers ≤ length ports.old
-        → NothingFails (port_view P.log P.coming P.bound P.made P.faults) (desk_view D.log D.coming D.made D.faults) f ports.old ports.new desk.old desk.new (K.faults out.old) (K.faults out.new) → (result ≡ 0) ⊎ (result ≡ 4) }
+        → NothingFails (port_view P.log P.coming P.bound P.made P.faults) (desk_view D.log D.coming D.made D.faults) ports.old ports.new desk.old desk.new (K.faults out.old) (K.faults out.new) → (result ≡ 0) ⊎ (result ≡ 4) ⊎ (result ≡ 11) }
 {
     let conf = match open_conf(alloc, name, files, out) {
         Ok(conf) => conf,

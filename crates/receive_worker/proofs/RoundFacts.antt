@@ -8,6 +8,7 @@ use Rattle.session_world.specs.declared.steps.Step.{Step}
 use Rattle.session_world.specs.declared.steps.Step.TheVariants.{Retire}
 use Rattle.session_world.specs.Sizes.{IsWithinLimits}
 use Rattle.session_world.specs.Keys.{ConfigParts}
+use Rattle.session_world.specs.Worker.{announced}
 use Rattle.session_world.specs.Desk.{config_at}
 use Rattle.session_world.specs.Answers.{Answer, worker_answers}
 use Rattle.session_world.specs.Rows.{ReadsRows, WorkersReadRows}
@@ -256,11 +257,12 @@ spent t locals limit turns seat log tally none e = subst (λ (u : Tally). IsWork
 
 -- ---- the whole
 
-pub whole_work : (t : Table) (locals : List Endpoint) (limit turns : ℕ) (before seat after : WorkerSeat) (k l m : Option (List PortEntry)) (tally : Tally) → LetGo t before seat → HasCome t seat after (worker_steps after) → HoldsNothing (worker_steps after)
+pub whole_work : (t : Table) (locals : List Endpoint) (limit turns : ℕ) (before seat after : WorkerSeat) (k l m : Option (List PortEntry)) (tally : Tally) → LetGo t before seat → HasCome t seat after (worker_steps after) → HoldsNothing (worker_steps after) → announced (worker_steps after) ≡ None
     → IsWork t locals limit turns seat after k l tally → Grows l m (done ∷ []) → Worked t locals limit turns before after k m tally
-whole_work t locals limit turns before seat after k l m tally gone come nothing w told = record {
+whole_work t locals limit turns before seat after k l m tally gone come nothing retired w told = record {
   come = record { steps = refl; number = come.number ∙ gone.come.number; seat = come.seat; schedule = come.schedule };
   nothing = nothing;
+  retired = retired;
   gained = w.works.gained ++ Retire ∷ [];
   steps = gained_then (worker_steps before) (worker_steps seat) (worker_steps after) (Retire ∷ []) w.works.gained gone.come.steps w.works.steps;
   rounds = w.rounds;

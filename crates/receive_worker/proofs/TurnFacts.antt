@@ -16,6 +16,7 @@ use Rattle.session_world.specs.declared.steps.Step.TheVariants.{Draw, Retire}
 use Rattle.session_world.specs.Sizes.{IsWithinLimits}
 use Rattle.session_world.specs.Keys.{Query, Key, Extra, ConfigParts, is_auth, is_auth_mode, is_some, has_key}
 use Rattle.session_world.specs.Answers.{Answer, seen, drew, late, worker_answers}
+use Rattle.session_world.specs.Worker.{announced}
 use Rattle.session_world.specs.Desk.{config_at}
 use Rattle.session_world.specs.Rows.{ReadsRows, WorkersReadRows}
 use Rattle.session_rule.specs.declared.seats.Table.{Table}
@@ -66,6 +67,7 @@ numbered_by t seat after old rows s n r c h come kept read =
 pub record LetGo (t : Table) (seat after : WorkerSeat) : Type 0 where
   pub come : HasCome t seat after (Retire ∷ worker_steps seat)
   pub nothing : HoldsNothing (worker_steps after)
+  pub retired : announced (worker_steps after) ≡ None
   pub answers : worker_answers (size_of t).slots (worker_steps after) ≡ worker_answers (size_of t).slots (worker_steps seat)
 
 some_key : (o : Option (List ℕ)) → is_some o ≡ true → IsSome o
@@ -109,6 +111,7 @@ pub missed_turn : (t : Table) (d : Arrived) (before after : WorkerSeat) (log : O
 missed_turn t d before after log passed found come = record {
   come = come;
   nothing = found.nothing;
+  retired = found.retired;
   gained = found.added;
   steps = found.steps;
   group = no_match;
@@ -124,6 +127,7 @@ silent_turn t d before seat after log s c why cause law sighted gone silent is =
     record {
       come = come_then sighted.come gone.come;
       nothing = gone.nothing;
+      retired = gone.retired;
       gained = (Retire ∷ []) ++ sighted.gained;
       steps = gained_then (worker_steps before) (worker_steps seat) (worker_steps after) sighted.gained (Retire ∷ []) sighted.steps gone.come.steps;
       group = only_seen s.key s.extra s.row;
@@ -142,6 +146,7 @@ late_turn t d before seat drawn after log s c law sighted come took gone reflect
     record {
       come = come_then (come_then sighted.come come) gone.come;
       nothing = gone.nothing;
+      retired = gone.retired;
       gained = (Retire ∷ []) ++ (draw ++ sighted.gained);
       steps = gained_then (worker_steps before) (worker_steps drawn) (worker_steps after) (draw ++ sighted.gained) (Retire ∷ [])
           (gained_then (worker_steps before) (worker_steps seat) (worker_steps drawn) sighted.gained draw sighted.steps took.steps) gone.come.steps;
@@ -164,6 +169,7 @@ drawn_turn t d before seat drawn after log log' s c n r c' entries outcome law s
     record {
       come = come_then (come_then sighted.come number.come) gone.come;
       nothing = gone.nothing;
+      retired = gone.retired;
       gained = (Retire ∷ []) ++ (number.gained ++ sighted.gained);
       steps = gained_then (worker_steps before) (worker_steps drawn) (worker_steps after) (number.gained ++ sighted.gained) (Retire ∷ [])
           (gained_then (worker_steps before) (worker_steps seat) (worker_steps drawn) sighted.gained number.gained sighted.steps number.steps) gone.come.steps;

@@ -4,3 +4,4 @@ pub mod Tally
 pub mod Work
 pub mod Accounts
 pub mod Buffers
+pub mod Retired

@@ -15,6 +15,7 @@ use Rattle.reflect_core.specs.Reflection.{Reflected, reflection}
 use Rattle.session_key.specs.Matching.{query_of}
 use Rattle.session_world.specs.declared.steps.Step.{Step}
 use Rattle.session_world.specs.Keys.{Query, Key, Extra, ConfigParts}
+use Rattle.session_world.specs.Worker.{announced}
 use Rattle.session_world.specs.Answers.{Answer, seen, drew, missed, late, worker_answers}
 use Rattle.session_world.specs.Rows.{ReadsRows}
 use Rattle.session_rule.specs.declared.seats.Table.{Table}
@@ -110,10 +111,12 @@ pub record Replies (k : Key) (x : Extra) (c : ConfigParts) (n : ℕ) (d : Arrive
   pub written : Grows log log' entries
 
 -- A datagram was answered: the seat gained the answers of just this group, and the port's log grew by just these entries. It is a
--- turn whatever configurations the rows stand for, as far as the seat's loads of rows tell. The seat holds nothing
+-- turn whatever configurations the rows stand for, as far as the seat's loads of rows tell. The seat holds nothing, and its
+-- announcement names no slot
 pub record Turned (t : Table) (d : Arrived) (before after : WorkerSeat) (log log' : Option (List PortEntry)) (outcome : Outcome) : Type 0 where
   pub come : HasCome t before after (worker_steps after)
   pub nothing : HoldsNothing (worker_steps after)
+  pub retired : announced (worker_steps after) ≡ None
   pub gained : List Step
   pub steps : worker_steps after ≡ gained ++ worker_steps before
   pub group : Group

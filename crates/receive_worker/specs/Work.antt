@@ -6,6 +6,7 @@ use Rattle.reflect_core.specs.Arrived.{Arrived}
 use Rattle.session_world.specs.declared.steps.Step.{Step}
 use Rattle.session_world.specs.declared.steps.TableSize.{TableSize}
 use Rattle.session_world.specs.Keys.{ConfigParts}
+use Rattle.session_world.specs.Worker.{announced}
 use Rattle.session_world.specs.Answers.{Answer, worker_answers}
 use Rattle.session_world.specs.Rows.{ReadsRows}
 use Rattle.session_rule.specs.declared.seats.Table.{Table}
@@ -188,10 +189,12 @@ pub record HasWorked (config : ℕ → ConfigParts) (z : TableSize) (locals : Li
   pub counted : tally ≡ tally_after (no_tally tally.end) rounds
   pub end : IsEnd limit turns rounds tally.end
 
--- The same whatever configurations the rows stand for, as far as the seat's loads of rows tell; and the seat holds nothing
+-- The same whatever configurations the rows stand for, as far as the seat's loads of rows tell; and the seat holds nothing, and
+-- its announcement names no slot
 pub record Worked (t : Table) (locals : List Endpoint) (limit turns : ℕ) (before after : WorkerSeat) (log log' : Option (List PortEntry)) (tally : Tally) : Type 0 where
   pub come : HasCome t before after (worker_steps after)
   pub nothing : HoldsNothing (worker_steps after)
+  pub retired : announced (worker_steps after) ≡ None
   pub gained : List Step
   pub steps : worker_steps after ≡ gained ++ worker_steps before
   pub rounds : List Round

@@ -3,6 +3,7 @@
 #![tactic(auto)]
 
 mod buffers;
+mod laws;
 mod tally;
 #[cfg(test)]
 mod tests;
@@ -10,6 +11,7 @@ mod turning;
 mod working;
 
 pub use buffers::Buffers;
+pub use laws::law_retires;
 pub use tally::{Begun, Tally, WorkEnd};
 pub use turning::turn;
 pub use working::work;

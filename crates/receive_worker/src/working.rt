@@ -1,6 +1,7 @@
 //! The loop of a worker.
 
-ghost use Rattle.std.specs.Prelude.{◌≡◌, ◌+◌, ◌≤◌, ◌<◌, length};
+ghost use Rattle.std.specs.Prelude.{◌≡◌, ◌+◌, ◌≤◌, ◌<◌, length, None};
+ghost use Rattle.session_world.specs.Worker.{announced};
 ghost use Rattle.session_rule.specs.Seats.{size_of, IsWorkerOf, IsWorkerOfOneSchedule, worker_number, worker_steps};
 ghost use Rattle.session_table.specs.Knowing.{AreRead};
 ghost use Rattle.session_table.specs.Steps.{HasCome};
@@ -31,11 +32,13 @@ fn round<P: Port>(
     requires same { IsWorkerOf table.now seat.old }
     requires schedule { IsWorkerOfOneSchedule (size_of table.now) (worker_number seat.old) (worker_steps seat.old) }
     requires nothing { HoldsNothing (worker_steps seat.old) }
+    requires retired { announced (worker_steps seat.old) ≡ None }
     requires read { AreRead (kept_rows buffers.old) (worker_steps seat.old) }
     requires bound { 0 < length (P.bound port.old) }
     requires locals { length locals.now ≤ 16 }
     ensures seat { HasCome table.now seat.old seat.new (worker_steps seat.new) }
     ensures nothing { HoldsNothing (worker_steps seat.new) }
+    ensures retired { announced (worker_steps seat.new) ≡ None }
     ensures read { AreRead (kept_rows buffers.new) (worker_steps seat.new) }
     ensures round { IsRound table.now locals.now seat.old seat.new (P.log port.old) (P.log port.new) result }
     ensures bound { P.bound port.new ≡ P.bound port.old }
@@ -72,11 +75,13 @@ fn take_all<P: Port>(
     requires same { IsWorkerOf table.now seat.old }
     requires schedule { IsWorkerOfOneSchedule (size_of table.now) (worker_number seat.old) (worker_steps seat.old) }
     requires nothing { HoldsNothing (worker_steps seat.old) }
+    requires retired { announced (worker_steps seat.old) ≡ None }
     requires read { AreRead (kept_rows buffers.old) (worker_steps seat.old) }
     requires bound { 0 < length (P.bound port.old) }
     requires locals { length locals.now ≤ 16 }
     ensures seat { HasCome table.now seat.old seat.new (worker_steps seat.new) }
     ensures nothing { HoldsNothing (worker_steps seat.new) }
+    ensures retired { announced (worker_steps seat.new) ≡ None }
     ensures works { IsWork table.now locals.now limit turns seat.old seat.new (P.log port.old) (P.log port.new) result }
     ensures bound { P.bound port.new ≡ P.bound port.old }
     ensures made { P.made port.new ≡ P.made port.old }

@@ -10,3 +10,4 @@ mod RunFacts
 mod BeginFacts
 mod WideFacts
 mod WholeFacts
+mod Named

@@ -22,7 +22,7 @@ use Rattle.receive_worker.specs.Accounts.{Accounts}
 use Rattle.receive_worker.specs.Work.{HasWorked}
 use Rattle.reflector_serve.specs.Ports.{PortView}
 use Rattle.reflector_serve.specs.Posts.{AllSeated, AreSeated, AreNumbered, AreFresh, lists_of, WorkedAt, AllWorked}
-use Rattle.reflector_serve.specs.Phases.{Phase, KeepsAllElse}
+use Rattle.reflector_serve.specs.Phases.{Phase, JoinsAll}
 use Rattle.reflector_serve.specs.Served.{DeskView, AllPorts, IsServed, AllServed}
 use Rattle.reflector_serve.specs.Opening.{IsOpening}
 use Rattle.reflector_serve.specs.Running.{DeskRan, HasServed}
@@ -65,6 +65,7 @@ one_served v t f config told p o q r m opening w none reads = record {
   rounds = w.worked.rounds;
   worked = subst (λ (xs : List Step). HasWorked config (size_of t) f.locals f.limit f.turns w.worked.rounds xs (worker_steps m.seat) (v.log o) (v.log q) m.tally) none (w.worked.worked config reads);
   accounts = subst (λ (xs : List Step). Accounts (size_of t).slots xs (worker_steps m.seat) m.tally) none w.accounts;
+  retired = w.worked.retired;
   bound = w.bound ∙ opening.bound;
   made = w.made ∙ opening.quiet.made;
   faults = subst (λ (n : ℕ). RisesBy (m.tally.recv_fault + m.tally.send_fault) n (v.faults q)) opening.still w.faults;
@@ -91,19 +92,19 @@ lists_length (r ∷ rs) = ap suc (lists_length rs)
 
 module _ {P S D T : Type 0} (v : PortView P S) (w : DeskView D T) (t : Table) (f : File) (room : Room) (os qs : List P) (d e : D) (rs mid : List (Post P)) (b at_end c : Book) (report : Report) where
   pub has_served : JoinedHistory → IsWithinLimits (size_of t) → BookFits c → AreFresh rs → length os ≡ length rs → AllWorked v t f os qs rs mid → (ran : DeskRan t w f.turns room d e b at_end report.desk)
-      → ((first base : List Step) → Phase t first base at_end (length mid) [] → Phase t first base c 0 (lists_of mid)) → KeepsAllElse at_end c
+      → ((first base : List Step) → Phase t first base at_end (length mid) [] → Phase t first base c 0 (lists_of mid)) → JoinsAll t 1 (lists_of mid) at_end c
       → report.workers.items ≡ map (λ (p : Post P). p.tally) mid → report.live ≡ length c.live
       → (first base : List Step) → Phase t first base b (length rs) [] → HasServed v w t f room first os qs d e b c report
-  has_served law within fits fresh len worked ran joins kept tallies live first base p =
+  has_served law within fits fresh len worked ran joins calls tallies live first base p =
       let p1 = run_phase t first base b at_end (length rs) p ran.went in
       let p2 = joins first (steps_of at_end) (subst (λ (n : ℕ). Phase t first (steps_of at_end) at_end n []) (sym (as_long v t f os qs rs mid worked)) p1) in
       let o = law (size_of t) first (steps_of c) (joined_parts c.seat) (lists_of mid) within (last_phase t first (steps_of at_end) c (lists_of mid) p2) in
       record {
         at_end = at_end;
         desk = ran;
-        joins = kept;
-        answers = p2.gave;
         lists = lists_of mid;
+        joins = calls;
+        fits = fits;
         workers = lists_length mid ∙ as_long v t f os qs rs mid worked ∙ sym len;
         one = o;
         grew = (p2.more, p2.grew);

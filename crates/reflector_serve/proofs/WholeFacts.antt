@@ -6,10 +6,11 @@ use Rattle.net_io.specs.Desk.{opened}
 use Rattle.session_world.specs.Rows.{RowsStay}
 use Rattle.session_rule.specs.declared.seats.Table.{Table}
 use Rattle.session_rule.specs.Seats.{size_of, joined_parts}
-use Rattle.session_desk.specs.Book.{Book, steps_of, answers_of}
+use Rattle.session_desk.specs.Book.{Book, steps_of}
 use Rattle.session_desk.specs.Fits.{BookFits}
 use Rattle.conf_text.specs.File.{File}
 use Rattle.file_opening.specs.Opened.{IsNewBook, HasOpened}
+use Rattle.file_opening.specs.Opening.{OpensFile}
 use Rattle.control_desk.specs.State.{Room}
 use Rattle.control_desk.specs.Connections.{first_room}
 use Rattle.reflector_serve.specs.declared.report.Report.{Report}
@@ -17,7 +18,7 @@ use Rattle.reflector_serve.specs.declared.report.ServeFault.{ServeFault}
 use Rattle.control_desk.specs.Faults.{AreFaultsTold}
 use Rattle.control_desk.specs.Run.{HasRun}
 use Rattle.reflector_serve.specs.Ports.{PortView, IsBound, Each, FirstTold}
-use Rattle.reflector_serve.specs.Phases.{KeepsAllElse}
+use Rattle.reflector_serve.specs.Phases.{SplitsOff}
 use Rattle.file_opening.specs.Opened.{size_in}
 use Rattle.reflector_serve.specs.Served.{DeskView, Served}
 use Rattle.reflector_serve.specs.Running.{HasServed}
@@ -34,20 +35,19 @@ pub record IsReady {D S : Type 0} (v : DeskView D S) (f : File) (d e : D) : Type
   pub still : v.faults e ≡ v.faults d
 
 module _ {P S D T : Type 0} (v : PortView P S) (w : DeskView D T) (t : Table) (f : File) (room : Room) (moment : ℕ) (ps ts os qs : List P) (d r e : D) (before b split c : Book) (report : Report) where
-  pub whole_served : size_of t ≡ size_in f → IsNewBook t f before → HasOpened t f moment before b → BookFits b → RowsStay → KeepsAllElse b split → answers_of split ≡ answers_of b → room ≡ first_room f
+  pub whole_served : size_of t ≡ size_in f → IsNewBook t f before → OpensFile t f moment before b → HasOpened t f moment before b → BookFits b → RowsStay → SplitsOff t f.workers b split → room ≡ first_room f
       → FirstTold v moment ps ts → Each (IsBound v f.locals) ts os → length ps ≡ f.workers → IsReady w f d r
       → HasServed v w t f room (steps_of b) os qs r e split c report → Served v w f ps qs d e report
-  whole_served size new h fits stay kept no_more is_room told each many ready hs = record {
+  whole_served size new opens h fits stay splits is_room told each many ready hs = record {
     table = t;
     size = size;
     moment = moment;
     before = before;
     new = new;
     at_first = b;
-    openings = h;
+    opening = opens;
     at_split = split;
-    splits = kept;
-    no_more = no_more;
+    splits = splits;
     at_end = hs.at_end;
     desk = record {
       ready = r;
@@ -57,10 +57,10 @@ module _ {P S D T : Type 0} (v : PortView P S) (w : DeskView D T) (t : Table) (f
       faults = subst (λ (n : ℕ). AreFaultsTold n (w.faults e) report.desk.faults) ready.still hs.desk.faults;
     };
     joined = c;
-    joins = hs.joins;
-    answers = hs.answers;
     lists = hs.lists;
     workers = hs.workers ∙ each.len ∙ told.len ∙ many;
+    joins = hs.joins;
+    fits = hs.fits;
     one = hs.one;
     begins = begins t (size_of t) f moment before b c (joined_parts c.seat) hs.lists h fits stay hs.one hs.grew;
     ports = hs.ports ps (read moment ∷ []) (all_opening v moment ps ts os told f.locals each);
@@ -77,17 +77,16 @@ wide v w f ps qs rest d e report s = record {
   before = s.before;
   new = s.new;
   at_first = s.at_first;
-  openings = s.openings;
+  opening = s.opening;
   at_split = s.at_split;
   splits = s.splits;
-  no_more = s.no_more;
   at_end = s.at_end;
   desk = s.desk;
   joined = s.joined;
-  joins = s.joins;
-  answers = s.answers;
   lists = s.lists;
   workers = s.workers;
+  joins = s.joins;
+  fits = s.fits;
   one = s.one;
   begins = s.begins;
   ports = wide_served v s.table f _ (read s.moment ∷ []) ps qs rest s.lists report.workers.items s.ports;

@@ -5,3 +5,4 @@ pub mod Live
 pub mod Served
 pub mod Opening
 pub mod Running
+pub mod Named

@@ -6,14 +6,15 @@ use Rattle.session_world.specs.Desk.{config_at}
 use Rattle.session_world.specs.Joined.{OneHistory}
 use Rattle.session_rule.specs.declared.seats.Table.{Table}
 use Rattle.session_rule.specs.Seats.{size_of, joined_parts}
-use Rattle.session_desk.specs.Book.{Book, steps_of, answers_of}
+use Rattle.session_desk.specs.Book.{Book, steps_of}
+use Rattle.session_desk.specs.Fits.{BookFits}
 use Rattle.session_desk.specs.Going.{DeskWent}
 use Rattle.conf_text.specs.File.{File}
 use Rattle.control_desk.specs.State.{Room}
 use Rattle.control_desk.specs.Faults.{AreFaultsTold}
 use Rattle.control_desk.specs.Run.{HasRun}
 use Rattle.reflector_serve.specs.Ports.{PortView}
-use Rattle.reflector_serve.specs.Phases.{KeepsAllElse}
+use Rattle.reflector_serve.specs.Phases.{JoinsAll}
 use Rattle.reflector_serve.specs.Live.{AreBound}
 use Rattle.reflector_serve.specs.Served.{DeskView, AllPorts, AllServed}
 use Rattle.reflector_serve.specs.Opening.{IsOpening}
@@ -31,9 +32,9 @@ pub record DeskRan {D S : Type 0} (t : Table) (v : DeskView D S) (turns : ℕ) (
 pub record HasServed {P S D T : Type 0} (v : PortView P S) (w : DeskView D T) (t : Table) (f : File) (room : Room) (first : List Step) (os qs : List P) (d e : D) (b joined : Book) (report : Report) : Type 0 where
   pub at_end : Book
   pub desk : DeskRan t w f.turns room d e b at_end report.desk
-  pub joins : KeepsAllElse at_end joined
-  pub answers : answers_of joined ≡ answers_of at_end
   pub lists : List (List Step)
+  pub joins : JoinsAll t 1 lists at_end joined
+  pub fits : BookFits joined
   pub workers : length lists ≡ length os
   pub one : OneHistory (size_of t) first (steps_of joined) (joined_parts joined.seat) lists
   pub grew : (more : List Step) × (steps_of joined ≡ more ++ first)

@@ -1,5 +1,5 @@
 -- One run of the reflector, from the opening to the last join (this project's own).
-use Rattle.std.specs.Prelude.{◌≡◌, ℕ, ◌+◌, List, [], ◌∷◌, ◌++◌, length, map, reverse, Option}
+use Rattle.std.specs.Prelude.{◌≡◌, ℕ, ◌+◌, List, [], ◌∷◌, ◌++◌, length, map, reverse, Option, None}
 use Rattle.refl_types.specs.declared.config.ConfigParts.{ConfigParts}
 use Rattle.net_io.specs.Log.{Grows}
 use Rattle.net_io.specs.Port.{PortEntry, read}
@@ -7,15 +7,18 @@ use Rattle.net_io.specs.Desk.{DeskEntry, opened, open_failed}
 use Rattle.port_io.specs.Outside.{Rises}
 use Rattle.session_world.specs.declared.steps.Step.{Step}
 use Rattle.session_world.specs.Desk.{config_at}
+use Rattle.session_world.specs.Worker.{announced}
 use Rattle.session_world.specs.Answers.{opened as opened_by}
 use Rattle.session_world.specs.History.{Event}
 use Rattle.session_world.specs.Joined.{OneHistory}
 use Rattle.session_rule.specs.declared.seats.Table.{Table}
 use Rattle.session_rule.specs.Seats.{size_of, joined_parts}
-use Rattle.session_desk.specs.Book.{Book, steps_of, answers_of}
+use Rattle.session_desk.specs.Book.{Book, steps_of}
+use Rattle.session_desk.specs.Fits.{BookFits}
 use Rattle.conf_text.specs.declared.sessions.Provided.{Provided}
 use Rattle.conf_text.specs.File.{File}
-use Rattle.file_opening.specs.Opened.{size_in, IsNewBook, HasOpened}
+use Rattle.file_opening.specs.Opened.{size_in, IsNewBook}
+use Rattle.file_opening.specs.Opening.{OpensFile}
 use Rattle.receive_worker.specs.declared.tally.Tally.{Tally}
 use Rattle.receive_worker.specs.Faults.{RisesBy}
 use Rattle.receive_worker.specs.Accounts.{Accounts}
@@ -24,7 +27,7 @@ use Rattle.control_desk.specs.State.{setting_of, first_state}
 use Rattle.control_desk.specs.Faults.{AreFaultsTold}
 use Rattle.control_desk.specs.Run.{HasRun}
 use Rattle.reflector_serve.specs.Ports.{PortView}
-use Rattle.reflector_serve.specs.Phases.{KeepsAllElse}
+use Rattle.reflector_serve.specs.Phases.{SplitsOff, JoinsAll}
 use Rattle.reflector_serve.specs.Live.{AreBound}
 use Rattle.control_desk.specs.declared.counts.DeskTally.{DeskTally}
 use Rattle.reflector_serve.specs.declared.report.Report.{Report}
@@ -53,13 +56,15 @@ pub record AreQuiet {P S : Type 0} (v : PortView P S) (ps qs : List P) : Type 0 
   pub quiet : AllPorts (IsQuiet v (read moment ∷ [])) (IsQuiet v []) ps qs
 
 -- A worker served at the port. At the opening the port told these entries and was bound to the file's local addresses. Then the
--- worker went through its rounds: its list of steps gave their answers, under these configurations, and the port's log tells them
+-- worker went through its rounds: its list of steps gave their answers, under these configurations, and the port's log tells them.
+-- At the end its announcement names no slot
 pub record IsServed {P S : Type 0} (v : PortView P S) (t : Table) (f : File) (config : ℕ → ConfigParts) (told : List PortEntry) (p q : P) (xs : List Step) (tally : Tally) : Type 0 where
   pub opened : P
   pub opening : IsQuiet v told p opened
   pub rounds : List Round
   pub worked : HasWorked config (size_of t) f.locals f.limit f.turns rounds [] xs (v.log opened) (v.log q) tally
   pub accounts : Accounts (size_of t).slots [] xs tally
+  pub retired : announced xs ≡ None
   pub bound : v.bound q ≡ f.locals
   pub made : v.made q ≡ v.made p
   pub faults : RisesBy (tally.recv_fault + tally.send_fault) (v.faults p) (v.faults q)
@@ -101,11 +106,11 @@ pub record IsRun {D S : Type 0} (v : DeskView D S) (t : Table) (f : File) (d e :
 -- ---- the whole
 
 -- One legal history explains the schedule of all steps on one table, and has the answers of the desk and of all workers.
--- `openings`: before any worker was split off, the file's sessions were opened at the moment that the first port told, each
---   with its wait, and `twamp` had its row.
+-- `new` to `joins`: all that the desk's seat did, from the first step to the last. The calls of the opening opened the file's
+--   sessions at the moment that the first port told, and gave `twamp` its row; then the workers were split off, the desk ran,
+--   and the workers were joined. Each call has the steps that it added, and they are those of the one schedule (`one`).
+-- `fits`: each row stands for the configuration that a call of the book gave it, also in the history.
 -- `begins`: the history begins with the openings of these sessions, in their order.
--- `desk`: the desk ran from the book with these sessions, and gave no answer before it but the openings (`no_more`) and none
---   after it (`answers`); the book's answers are the desk's events (`one`).
 -- `ports`: each worker served at its port, and its answers are its events (`one`); there are as many workers as the file says.
 -- `live`: as many keys are left bound as the report tells
 pub record Served {P S D T : Type 0} (v : PortView P S) (w : DeskView D T) (f : File) (ps qs : List P) (d e : D) (report : Report) : Type 0 where
@@ -115,17 +120,16 @@ pub record Served {P S D T : Type 0} (v : PortView P S) (w : DeskView D T) (f : 
   pub before : Book
   pub new : IsNewBook table f before
   pub at_first : Book
-  pub openings : HasOpened table f moment before at_first
+  pub opening : OpensFile table f moment before at_first
   pub at_split : Book
-  pub splits : KeepsAllElse at_first at_split
-  pub no_more : answers_of at_split ≡ answers_of at_first
+  pub splits : SplitsOff table f.workers at_first at_split
   pub at_end : Book
   pub desk : IsRun w table f d e at_split at_end report.desk
   pub joined : Book
-  pub joins : KeepsAllElse at_end joined
-  pub answers : answers_of joined ≡ answers_of at_end
   pub lists : List (List Step)
   pub workers : length lists ≡ f.workers
+  pub joins : JoinsAll table 1 lists at_end joined
+  pub fits : BookFits joined
   pub one : OneHistory (size_of table) (steps_of at_first) (steps_of joined) (joined_parts joined.seat) lists
   pub begins : (later : List (Event ConfigParts)) × (one.history ≡ later ++ map opening_event (reverse f.sessions))
   pub ports : AllServed v table f (config_at (steps_of joined)) (read moment ∷ []) ps qs lists report.workers.items

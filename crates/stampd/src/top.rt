@@ -110,14 +110,14 @@ pub fn stampd<R: Threads + Sync, S: Source, K: Sink, F: Files, P: Port + Send, D
 
     ensures reported { (seed count : ℕ) → IsGen seed count (map string_bytes words.now) → (Rises (K.faults out.old) (K.faults out.new) → ⊥) → (result ≡ 0) ⊎ (result ≡ 4) }
 
-    // Likewise of a file to serve; and what is served ends with 0 where no budget is spent besides.
+    // Likewise of a file to serve; and what is served ends with 0, or with 11 where a budget is spent.
     ensures turned_away { (fs : List port.File) (name text : List ℕ) → F.files files.old ≡ Some fs → content name fs ≡ Some text → IsRun name (map string_bytes words.now)
         → (Rises (F.faults files.old) (F.faults files.new) → ⊥) → (content_status text ≡ 0 → ⊥) → (result ≡ content_status text) ⊎ (result ≡ 4) }
     ensures crowded { (fs : List port.File) (name text : List ℕ) (f : File) → F.files files.old ≡ Some fs → content name fs ≡ Some text → IsRun name (map string_bytes words.now)
         → (Rises (F.faults files.old) (F.faults files.new) → ⊥) → length text ≤ file_limit → file_in text ≡ Ok f → length ports.old < f.workers → (result ≡ 3) ⊎ (result ≡ 4) }
     ensures served { (fs : List port.File) (name text : List ℕ) (f : File) → F.files files.old ≡ Some fs → content name fs ≡ Some text → IsRun name (map string_bytes words.now)
         → (Rises (F.faults files.old) (F.faults files.new) → ⊥) → length text ≤ file_limit → file_in text ≡ Ok f → f.workers ≤ length ports.old
-        → NothingFails (port_view P.log P.coming P.bound P.made P.faults) (desk_view D.log D.coming D.made D.faults) f ports.old ports.new desk.old desk.new (K.faults out.old) (K.faults out.new) → (result ≡ 0) ⊎ (result ≡ 4) }
+        → NothingFails (port_view P.log P.coming P.bound P.made P.faults) (desk_view D.log D.coming D.made D.faults) ports.old ports.new desk.old desk.new (K.faults out.old) (K.faults out.new) → (result ≡ 0) ⊎ (result ≡ 4) ⊎ (result ≡ 11) }
 {
     let Some(name) = file_to_run(words) else {
         return offline(alloc, words, input, out, files);

@@ -8,6 +8,7 @@ use Rattle.conf_text.specs.Sessions.{lacks_key}
 use Rattle.file_opening.proofs.RefusedFacts.{not_refused, not_unstarted}
 use Rattle.file_opening.proofs.NextFacts.{both_calls, one_opened}
 use Rattle.file_opening.proofs.Ends.{session_used}
+use Rattle.file_opening.proofs.OpensFacts.{opens_next}
 use Rattle.file_opening.proofs.open_session.Goals as goal
 
 pub unreachable-requires : goal.unreachable-requires
@@ -25,6 +26,11 @@ pub returns-clause-went : goal.returns-clause-went
 returns-clause-went c = let f = c.args.conf.now in let s = c.index-sessions-index.result in
     let is : s ≡ get_or f.sessions c.args.index s = c.index-sessions-index.is ∙ ap (λ (xs : List Provided). get_or xs c.args.index s) c.sessions.ensures.value in
     both_calls c.args.table.now f c.args.moment c.args.index c.args.book.now c.reserve.new.self c.start.new.self s c.in-Ok.place c.requires.inside is c.requires.first c.in-Ok.ensures.made c.in-Ok-start.ensures.made
+
+pub returns-clause-opens : goal.returns-clause-opens
+returns-clause-opens c = λ first. let f = c.args.conf.now in let s = c.index-sessions-index.result in
+    let is : s ≡ get_or f.sessions c.args.index s = c.index-sessions-index.is ∙ ap (λ (xs : List Provided). get_or xs c.args.index s) c.sessions.ensures.value in
+    opens_next c.args.table.now f c.args.moment c.args.index s c.in-Ok.place first c.args.book.now c.reserve.new.self c.start.new.self c.requires.inside is c.in-Ok.ensures.made c.in-Ok-start.ensures.made
 
 pub returns-clause-next : goal.returns-clause-next
 returns-clause-next c = let f = c.args.conf.now in let s = c.index-sessions-index.result in

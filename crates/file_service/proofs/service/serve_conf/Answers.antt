@@ -60,8 +60,8 @@ returns-in-Ok-clause-complete g c = λ none.
     let w = desk_view g.D.Desk.log g.D.Desk.coming g.D.Desk.made g.D.Desk.faults in
     let o = c.args.out.now in
     let n = c.tell_report.new.out in
-    elim c.tell_report.ensures.told as (λ _. (c.tell_report.result ≡ 0) ⊎ (c.tell_report.result ≡ 4)) [
-      | inl h ↦ inr h
+    elim c.tell_report.ensures.told as (λ _. (c.tell_report.result ≡ 0) ⊎ (c.tell_report.result ≡ 4) ⊎ (c.tell_report.result ≡ 11)) [
+      | inl h ↦ inr (inl h)
       | inr (inl h) ↦ absurd (none.writes (c.tell_report.ensures.lost h).1)
-      | inr (inr h) ↦ inl (none_failed v w c.args.conf.now c.args.ports.now c.serve.new.ports c.args.desk.now c.serve.new.desk (g.K.Sink.written o) (g.K.Sink.written n) (g.K.Sink.faults o) (g.K.Sink.faults n) c.in-Ok.report c.tell_report.result c.in-Ok.ensures.served h none)
+      | inr (inr h) ↦ none_failed v w c.args.conf.now c.args.ports.now c.serve.new.ports c.args.desk.now c.serve.new.desk (g.K.Sink.written o) (g.K.Sink.written n) (g.K.Sink.faults o) (g.K.Sink.faults n) c.in-Ok.report c.tell_report.result c.in-Ok.ensures.served h none
     ]

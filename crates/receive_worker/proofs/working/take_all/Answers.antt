@@ -18,6 +18,7 @@ rounds-init g c =
     record {
       seat = record { steps = refl; number = refl; seat = c.requires.same; schedule = c.requires.schedule };
       nothing = c.requires.nothing;
+      retired = c.requires.retired;
       read = c.requires.read;
       bound = refl;
       made = refl;
@@ -47,6 +48,7 @@ rounds-preserved g c =
     record {
       seat = record { steps = refl; number = c.round-begun.ensures.seat.number ∙ l.invariant.seat.number; seat = c.round-begun.ensures.seat.seat; schedule = c.round-begun.ensures.seat.schedule };
       nothing = c.round-begun.ensures.nothing;
+      retired = c.round-begun.ensures.retired;
       read = c.round-begun.ensures.read;
       bound = c.round-begun.ensures.bound ∙ l.invariant.bound;
       made = c.round-begun.ensures.made ∙ l.invariant.made;

@@ -1,5 +1,6 @@
-use Rattle.std.proofs.Common.{◌+◌, ◌-◌, ◌≡◌, ◌<◌, ◌≤◌}
+use Rattle.std.proofs.Common.{◌+◌, ◌-◌, ◌≡◌, ◌<◌, ◌≤◌, None}
 use Rattle.session_rule.specs.Seats.{worker_steps}
+use Rattle.session_world.specs.Worker.{announced}
 use Rattle.session_table.specs.Knowing.{AreRead}
 use Rattle.session_table.specs.Steps.{HasCome}
 use Rattle.session_table.specs.Holding.{HoldsNothing}
@@ -13,6 +14,7 @@ abbrev pub invariant-rounds : goal.invariant-rounds
 invariant-rounds g l = record {
   seat : HasCome l.table l.fn.seat l.seat (worker_steps l.seat);
   nothing : HoldsNothing (worker_steps l.seat);
+  retired : announced (worker_steps l.seat) ≡ None;
   read : AreRead (kept_rows l.buffers) (worker_steps l.seat);
   bound : g.P.Port.bound l.port ≡ g.P.Port.bound l.fn.port;
   made : g.P.Port.made l.port ≡ g.P.Port.made l.fn.port;

@@ -4,7 +4,7 @@ use Rattle.session_rule.specs.Seats.{size_of}
 use Rattle.reflector_serve.specs.declared.post.Post.{Post}
 use Rattle.reflector_serve.specs.Ports.{port_view}
 use Rattle.reflector_serve.specs.Posts.{AreSeated, AreNumbered, AllWorked, lists_of}
-use Rattle.reflector_serve.specs.Phases.{Phase}
+use Rattle.reflector_serve.specs.Phases.{Phase, JoinsAll}
 use Rattle.reflector_serve.specs.Served.{desk_view}
 use Rattle.reflector_serve.proofs.RunFacts.{as_long, seated_after, numbered_after, whole, has_served}
 use Rattle.reflector_serve.proofs.serving.serve_split.Goals as goal
@@ -41,5 +41,5 @@ returns g c = λ first base p.
     c.law_joined_history.ensures within c.law_fits.ensures c.requires.fresh (c.requires.ports ∙ many) worked c.run_all-tally.ensures.desk
     (λ first' base' q. subst (λ (xs : List (Post _)). Phase t first' base' c.join_all.new.book 0 (lists_of xs)) same
     (c.join_all.ensures.joined first' base' (subst (λ (m : ℕ). Phase t first' base' c.run_all-tally.new.book m []) n q)))
-    c.join_all.ensures.kept (c.tallies_of.ensures ∙ ap (map (λ (r : Post _). r.tally)) (c.as_slice.ensures.value ∙ same)) ((c.live_len.ensures t).0)
+    (subst (λ (xs : List (Post _)). JoinsAll t 1 (lists_of xs) c.run_all-tally.new.book c.join_all.new.book) same c.join_all.ensures.calls) (c.tallies_of.ensures ∙ ap (map (λ (r : Post _). r.tally)) (c.as_slice.ensures.value ∙ same)) ((c.live_len.ensures t).0)
     first base (subst (λ (m : ℕ). Phase t first base c.args.book.now m []) many p)

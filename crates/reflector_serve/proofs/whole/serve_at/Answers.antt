@@ -4,7 +4,7 @@ use Rattle.net_io.specs.Log.{Grows}
 use Rattle.net_io.specs.Desk.{opened}
 use Rattle.session_desk.specs.Book.{steps_of}
 use Rattle.reflector_serve.specs.Ports.{port_view, IsBound, Each}
-use Rattle.reflector_serve.specs.Phases.{Phase}
+use Rattle.reflector_serve.specs.Phases.{Phase, SplitsOff}
 use Rattle.reflector_serve.specs.Served.{desk_view}
 use Rattle.reflector_serve.proofs.BeginFacts.{opened_phase}
 use Rattle.reflector_serve.proofs.QuietFacts.{all_quiet}
@@ -14,7 +14,7 @@ use Rattle.reflector_serve.proofs.whole.serve_at.Goals as goal
 
 pub split_all-requires-clause-opened : goal.split_all-requires-clause-opened
 split_all-requires-clause-opened g c = let b = c.open_sessions.new.book in
-    (steps_of b, steps_of b, opened_phase c.in-Ok.table c.args.conf.now c.read_first-moment.result c.in-Ok.book b c.in-Ok.ensures.new c.open_sessions.ensures)
+    (steps_of b, steps_of b, opened_phase c.in-Ok.table c.args.conf.now c.read_first-moment.result c.in-Ok.book b c.in-Ok.ensures.new c.open_sessions.ensures.opened)
 
 pub returns-in_default-open_ports-clause-port_open : goal.returns-in_default-open_ports-clause-port_open
 returns-in_default-open_ports-clause-port_open g c = λ e.
@@ -43,7 +43,7 @@ serve_split-requires-clause-ready g c κs within =
 
 pub serve_split-requires-clause-book : goal.serve_split-requires-clause-book
 serve_split-requires-clause-book g c κs within = let b = c.open_sessions.new.book in
-    (c.split_all.ensures.phase (steps_of b) (steps_of b) (opened_phase c.in-Ok.table c.args.conf.now c.read_first-moment.result c.in-Ok.book b c.in-Ok.ensures.new c.open_sessions.ensures)).book
+    (c.split_all.ensures.phase (steps_of b) (steps_of b) (opened_phase c.in-Ok.table c.args.conf.now c.read_first-moment.result c.in-Ok.book b c.in-Ok.ensures.new c.open_sessions.ensures.opened)).book
 
 pub returns-clause-served : goal.returns-clause-served
 returns-clause-served g c =
@@ -54,11 +54,14 @@ returns-clause-served g c =
     subst (λ (xs : List Endpoint). Each (IsBound v xs) c.read_first-moment.new.ports c.open_ports.new.ports) c.locals.ensures.value c.in-Ok-open_ports.ensures.bound in
     let phase : Phase t (steps_of b) (steps_of b) c.split_all.new.book c.split_all.new.posts.len [] =
     subst (λ (n : ℕ). Phase t (steps_of b) (steps_of b) c.split_all.new.book n []) (sym c.split_all.ensures.len)
-    (c.split_all.ensures.phase (steps_of b) (steps_of b) (opened_phase t f moment c.in-Ok.book b c.in-Ok.ensures.new c.open_sessions.ensures)) in
+    (c.split_all.ensures.phase (steps_of b) (steps_of b) (opened_phase t f moment c.in-Ok.book b c.in-Ok.ensures.new c.open_sessions.ensures.opened)) in
+    let splits : SplitsOff t f.workers b c.split_all.new.book =
+    let m = c.in-Ok-make_rooms.ensures in let n = c.workers-count.ensures.value in
+    subst (λ (k : ℕ). SplitsOff t k b c.split_all.new.book) (omega (arith, m, n)) c.split_all.ensures.calls in
     let o = c.in-Ok-open.ensures in
     let log : Grows (g.D.Desk.log c.args.desk.now) (g.D.Desk.log c.open.new.self) (opened f.control f.operator ∷ []) =
     subst (λ (x : Option Endpoint). Grows (g.D.Desk.log c.args.desk.now) (g.D.Desk.log c.open.new.self) (opened x f.operator ∷ [])) c.control.ensures.value
     (subst (λ (x : Option Endpoint). Grows (g.D.Desk.log c.args.desk.now) (g.D.Desk.log c.open.new.self) (opened c.control.result x ∷ [])) c.operator.ensures o.log) in
     whole_served v w t f c.in-Ok-make.room moment c.args.ports.now c.read_first-moment.new.ports c.open_ports.new.ports c.serve_split.new.ports c.args.desk.now c.open.new.self c.serve_split.new.desk c.in-Ok.book b c.split_all.new.book c.serve_split.new.book c.serve_split.result
-    c.in-Ok.ensures.size c.in-Ok.ensures.new c.open_sessions.ensures c.law_fits.ensures c.law_rows_stay.ensures c.split_all.ensures.kept phase.gave c.in-Ok-make.ensures c.read_first-moment.ensures each c.requires
+    c.in-Ok.ensures.size c.in-Ok.ensures.new c.open_sessions.ensures.opens c.open_sessions.ensures.opened c.law_fits.ensures c.law_rows_stay.ensures splits c.in-Ok-make.ensures c.read_first-moment.ensures each c.requires
     (record { log = log; made = o.made; still = o.still }) (c.serve_split.ensures (steps_of b) (steps_of b) phase)
