@@ -16,8 +16,8 @@ made_then t a b c [] y h k = subst (λ (m : Book). MakesAll t y m c) h k
 made_then t a b c (noted e ∷ x) y h k = made_then t a b c x y h k
 made_then t a b c (called d ∷ x) y h k = (h.0, h.1, made_then t h.0 b c x y h.2 k)
 
-shown_then : {S : Type 0} (a b c : DeskView S) (x y : List Act) → ShowsAll x a b → ShowsAll y b c → ShowsAll (x ++ y) a c
-shown_then {S} a b c [] y h k = subst (λ (m : DeskView S). ShowsAll y m c) h k
+shown_then : {S D : Type 0} {goes : D → DeskEntry → D → Type 0} (a b c : DeskView S D goes) (x y : List Act) → ShowsAll x a b → ShowsAll y b c → ShowsAll (x ++ y) a c
+shown_then {S} {D} {goes} a b c [] y h k = subst (λ (m : DeskView S D goes). ShowsAll y m c) h k
 shown_then a b c (noted e ∷ x) y h k = (h.0, h.1, shown_then h.0 b c x y h.2 k)
 shown_then a b c (called d ∷ x) y h k = shown_then a b c x y h k
 
@@ -25,10 +25,10 @@ counts_then : (n : Counts) (x y : List Act) → counts_after n (x ++ y) ≡ coun
 counts_then n [] y = refl
 counts_then n (a ∷ x) y = counts_then (counts_with n a) x y
 
-pub follows_none : {S : Type 0} {t : Table} (p : Plan) (d : DeskView S) (b : Book) (n : Counts) → Follows t p p d d b b n n
+pub follows_none : {S D : Type 0} {goes : D → DeskEntry → D → Type 0} {t : Table} (p : Plan) (d : DeskView S D goes) (b : Book) (n : Counts) → Follows t p p d d b b n n
 follows_none p d b n = record { acts = []; leads = refl; shown = refl; made = refl; counted = refl }
 
-pub follows_then : {S : Type 0} {t : Table} {p q r : Plan} {d d' d'' : DeskView S} {b b' b'' : Book} {n n' n'' : Counts}
+pub follows_then : {S D : Type 0} {goes : D → DeskEntry → D → Type 0} {t : Table} {p q r : Plan} {d d' d'' : DeskView S D goes} {b b' b'' : Book} {n n' n'' : Counts}
     → Follows t p q d d' b b' n n' → Follows t q r d' d'' b' b'' n' n'' → Follows t p r d d'' b b'' n n''
 follows_then {t = t} {p} {q} {r} {d} {d'} {d''} {b} {b'} {b''} {n} {n'} {n''} x y = record {
   acts = x.acts ++ y.acts;
@@ -39,18 +39,18 @@ follows_then {t = t} {p} {q} {r} {d} {d'} {d''} {b} {b'} {b''} {n} {n'} {n''} x 
 }
 
 -- an entry of the log
-pub follows_noted : {S : Type 0} {t : Table} (p q : Plan) (e : DeskEntry) {d d' : DeskView S} (b : Book) {n n' : Counts}
+pub follows_noted : {S D : Type 0} {goes : D → DeskEntry → D → Type 0} {t : Table} (p q : Plan) (e : DeskEntry) {d d' : DeskView S D goes} (b : Book) {n n' : Counts}
     → IsNext p (noted e) q → Shows e d d' → n' ≡ counts_with n (noted e) → Follows t p q d d' b b n n'
 follows_noted p q e {d} {d'} b h s c = record { acts = noted e ∷ []; leads = (q, h, refl); shown = (d', s, refl); made = refl; counted = c }
 
 -- a call of the book
-pub follows_called : {S : Type 0} {t : Table} (p q : Plan) (call : BookCall) (d : DeskView S) {b b' : Book} {n n' : Counts}
+pub follows_called : {S D : Type 0} {goes : D → DeskEntry → D → Type 0} {t : Table} (p q : Plan) (call : BookCall) (d : DeskView S D goes) {b b' : Book} {n n' : Counts}
     → IsNext p (called call) q → Makes t call b b' → n' ≡ counts_with n (called call) → Follows t p q d d b b' n n'
 follows_called p q call d {b} {b'} h m c = record { acts = called call ∷ []; leads = (q, h, refl); shown = refl; made = (b', m, refl); counted = c }
 
 -- the plan is the one that another name stands for
-pub follows_as : {S : Type 0} {t : Table} {p p' q : Plan} {d d' : DeskView S} {b b' : Book} {n n' : Counts} → p' ≡ p → Follows t p q d d' b b' n n' → Follows t p' q d d' b b' n n'
+pub follows_as : {S D : Type 0} {goes : D → DeskEntry → D → Type 0} {t : Table} {p p' q : Plan} {d d' : DeskView S D goes} {b b' : Book} {n n' : Counts} → p' ≡ p → Follows t p q d d' b b' n n' → Follows t p' q d d' b b' n n'
 follows_as {t = t} {p} {p'} {q} {d} {d'} {b} {b'} {n} {n'} e h = subst (λ (r : Plan). Follows t r q d d' b b' n n') (sym e) h
 
-pub follows_to : {S : Type 0} {t : Table} {p q q' : Plan} {d d' : DeskView S} {b b' : Book} {n n' : Counts} → q ≡ q' → Follows t p q d d' b b' n n' → Follows t p q' d d' b b' n n'
+pub follows_to : {S D : Type 0} {goes : D → DeskEntry → D → Type 0} {t : Table} {p q q' : Plan} {d d' : DeskView S D goes} {b b' : Book} {n n' : Counts} → q ≡ q' → Follows t p q d d' b b' n n' → Follows t p q' d d' b b' n n'
 follows_to {t = t} {p} {q} {q'} {d} {d'} {b} {b'} {n} {n'} e h = subst (λ (r : Plan). Follows t p r d d' b b' n n') e h

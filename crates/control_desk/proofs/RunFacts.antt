@@ -4,7 +4,7 @@ use Rattle.std.proofs.lemmas.List.{append-nil}
 use Rattle.port_io.specs.Outside.{Rises}
 use Rattle.net_io.specs.declared.desk.Timed.{Timed}
 use Rattle.net_io.specs.Log.{Grows}
-use Rattle.net_io.specs.Desk.{opened, open_failed, gave, next_failed, sent, send_failed, hung_up, finished}
+use Rattle.net_io.specs.Desk.{DeskEntry, opened, open_failed, gave, next_failed, sent, send_failed, hung_up, finished}
 use Rattle.session_rule.specs.declared.seats.Table.{Table}
 use Rattle.session_desk.specs.Book.{Book}
 use Rattle.session_desk.specs.Makes.{BookCall, admits, reserves, keeps_row, starts, abandons, sets, closes, closes_at, counts, ticks, tells_length, tells_key, tells_place}
@@ -18,7 +18,7 @@ use Rattle.control_desk.specs.State.{Setting, DeskState, is_quits}
 use Rattle.control_desk.specs.Connections.{settled_side}
 use Rattle.control_desk.specs.Operator.{settled_piece}
 use Rattle.control_desk.specs.Plan.{Plan, Act, noted, called, hear, stop, entries_in, MakesAll, counts_with, counts_after, DeskView, ShowsAll, Follows}
-use Rattle.control_desk.specs.Run.{event_plan, behind_event, begun, desk_plan, is_over}
+use Rattle.control_desk.specs.Run.{GoesAll, event_plan, behind_event, begun, desk_plan, is_over}
 use Rattle.control_desk.specs.Faults.{AreFaultsTold}
 
 -- ---- a turn
@@ -67,22 +67,22 @@ grows_none : {E : Type 0} (l : Option (List E)) → Grows l l []
 grows_none None = tt
 grows_none (Some l) = sym (append-nil l)
 
-pub log_grows : {S : Type 0} (acts : List Act) (d d' : DeskView S) → ShowsAll acts d d' → Grows d.log d'.log (entries_in acts)
-log_grows {S} [] d d' h = subst (λ (m : DeskView S). Grows d.log m.log []) (sym h) (grows_none d.log)
+pub log_grows : {S D : Type 0} {goes : D → DeskEntry → D → Type 0} (acts : List Act) (d d' : DeskView S D goes) → ShowsAll acts d d' → Grows d.log d'.log (entries_in acts)
+log_grows {S} {D} {goes} [] d d' h = subst (λ (m : DeskView S D goes). Grows d.log m.log []) (sym h) (grows_none d.log)
 log_grows (noted e ∷ acts) d d' h = grows_then d.log (h.0).log d'.log (e ∷ []) (entries_in acts) (h.1).log (log_grows acts h.0 d' h.2)
 log_grows (called call ∷ acts) d d' h = log_grows acts d d' h
 
-open_stays : {S : Type 0} (acts : List Act) (d d' : DeskView S) → ShowsAll acts d d' → d'.is_open ≡ d.is_open
-open_stays {S} [] d d' h = ap (λ (m : DeskView S). m.is_open) h
+open_stays : {S D : Type 0} {goes : D → DeskEntry → D → Type 0} (acts : List Act) (d d' : DeskView S D goes) → ShowsAll acts d d' → d'.is_open ≡ d.is_open
+open_stays {S} {D} {goes} [] d d' h = ap (λ (m : DeskView S D goes). m.is_open) h
 open_stays (noted e ∷ acts) d d' h = open_stays acts h.0 d' h.2 ∙ (h.1).is_open
 open_stays (called call ∷ acts) d d' h = open_stays acts d d' h
 
-pub made_stays : {S : Type 0} (acts : List Act) (d d' : DeskView S) → ShowsAll acts d d' → d'.made ≡ d.made
-made_stays {S} [] d d' h = ap (λ (m : DeskView S). m.made) h
+pub made_stays : {S D : Type 0} {goes : D → DeskEntry → D → Type 0} (acts : List Act) (d d' : DeskView S D goes) → ShowsAll acts d d' → d'.made ≡ d.made
+made_stays {S} {D} {goes} [] d d' h = ap (λ (m : DeskView S D goes). m.made) h
 made_stays (noted e ∷ acts) d d' h = made_stays acts h.0 d' h.2 ∙ (h.1).made
 made_stays (called call ∷ acts) d d' h = made_stays acts d d' h
 
-pub open_after : {S : Type 0} {t : Table} {p q : Plan} {d d' : DeskView S} {b b' : Book} {n n' : Counts} → Follows t p q d d' b b' n n' → IsTrue d.is_open → IsTrue d'.is_open
+pub open_after : {S D : Type 0} {goes : D → DeskEntry → D → Type 0} {t : Table} {p q : Plan} {d d' : DeskView S D goes} {b b' : Book} {n n' : Counts} → Follows t p q d d' b b' n n' → IsTrue d.is_open → IsTrue d'.is_open
 open_after {d = d} {d'} f h = subst (λ (o : Bool). IsTrue o) (sym (open_stays f.acts d d' f.shown)) h
 
 -- ---- faults
@@ -117,8 +117,8 @@ rises_more old mid new k (inr e) h = omega (arith, e.0, e.1, h)
 same_more : (old mid new k : ℕ) → mid ≡ old → min (mid + k) (2 ^ 64 - 1) ≤ new → min (old + k) (2 ^ 64 - 1) ≤ new
 same_more old mid new k e h = subst (λ (m : ℕ). min (m + k) (2 ^ 64 - 1) ≤ new) e h
 
-faults_rise : {S : Type 0} (acts : List Act) (d d' : DeskView S) → ShowsAll acts d d' → min (d.faults + failures acts) (2 ^ 64 - 1) ≤ d'.faults
-faults_rise {S} [] d d' h = let e : d'.faults ≡ d.faults = ap (λ (m : DeskView S). m.faults) h in omega (arith, e)
+faults_rise : {S D : Type 0} {goes : D → DeskEntry → D → Type 0} (acts : List Act) (d d' : DeskView S D goes) → ShowsAll acts d d' → min (d.faults + failures acts) (2 ^ 64 - 1) ≤ d'.faults
+faults_rise {S} {D} {goes} [] d d' h = let e : d'.faults ≡ d.faults = ap (λ (m : DeskView S D goes). m.faults) h in omega (arith, e)
 faults_rise (noted next_failed ∷ acts) d d' h = rises_more d.faults (h.0).faults d'.faults (failures acts) (h.1).faults (faults_rise acts h.0 d' h.2)
 faults_rise (noted (send_failed n o) ∷ acts) d d' h = rises_more d.faults (h.0).faults d'.faults (failures acts) (h.1).faults (faults_rise acts h.0 d' h.2)
 faults_rise (noted (opened c o) ∷ acts) d d' h = same_more d.faults (h.0).faults d'.faults (failures acts) (h.1).faults (faults_rise acts h.0 d' h.2)
@@ -129,8 +129,8 @@ faults_rise (noted (hung_up n) ∷ acts) d d' h = same_more d.faults (h.0).fault
 faults_rise (noted finished ∷ acts) d d' h = same_more d.faults (h.0).faults d'.faults (failures acts) (h.1).faults (faults_rise acts h.0 d' h.2)
 faults_rise (called call ∷ acts) d d' h = faults_rise acts d d' h
 
-faults_stay : {S : Type 0} (acts : List Act) (d d' : DeskView S) → ShowsAll acts d d' → failures acts ≡ 0 → d'.faults ≡ d.faults
-faults_stay {S} [] d d' h z = ap (λ (m : DeskView S). m.faults) h
+faults_stay : {S D : Type 0} {goes : D → DeskEntry → D → Type 0} (acts : List Act) (d d' : DeskView S D goes) → ShowsAll acts d d' → failures acts ≡ 0 → d'.faults ≡ d.faults
+faults_stay {S} {D} {goes} [] d d' h z = ap (λ (m : DeskView S D goes). m.faults) h
 faults_stay (noted next_failed ∷ acts) d d' h z = absurd (omega (arith, z))
 faults_stay (noted (send_failed n o) ∷ acts) d d' h z = absurd (omega (arith, z))
 faults_stay (noted (opened c o) ∷ acts) d d' h z = faults_stay acts h.0 d' h.2 z ∙ (h.1).faults
@@ -170,7 +170,7 @@ no_failures : (acts : List Act) (n : Counts) → (counts_after n acts).faults �
 no_failures acts n z zero e = refl
 no_failures acts n z (suc k) e = let some : 0 < (counts_after n acts).faults = counted_some acts n (omega (arith, e)) in absurd (omega (arith, some, z))
 
-pub faults_told : {S : Type 0} (acts : List Act) (d d' : DeskView S) (n : Counts) → n.faults ≡ 0 → ShowsAll acts d d' → AreFaultsTold d.faults d'.faults (counts_after n acts).faults
+pub faults_told : {S D : Type 0} {goes : D → DeskEntry → D → Type 0} (acts : List Act) (d d' : DeskView S D goes) (n : Counts) → n.faults ≡ 0 → ShowsAll acts d d' → AreFaultsTold d.faults d'.faults (counts_after n acts).faults
 faults_told acts d d' n z h = record {
   rises = omega (arith, faults_rise acts d d' h, counted_few acts n, z);
   stays = λ e. faults_stay acts d d' h (no_failures acts n e (failures acts) refl);
@@ -184,3 +184,14 @@ book_went law (noted e ∷ acts) b c s h = book_went law acts b c s h
 book_went law {t} (called call ∷ acts) b c s h =
     let one = law.call t call b h.0 s h.1 in
     law.both t b h.0 c one (book_went law acts h.0 c one.stands h.2)
+
+-- ---- how the desk went on
+
+pub gone_then : {D : Type 0} (goes : D → DeskEntry → D → Type 0) (x y : List DeskEntry) (a b c : D) → GoesAll goes x a b → GoesAll goes y b c → GoesAll goes (x ++ y) a c
+gone_then goes [] y a b c h k = subst (λ d. GoesAll goes y d c) h k
+gone_then goes (e ∷ x) y a b c h k = (h.0, h.1, gone_then goes x y h.0 b c h.2 k)
+
+pub all_gone : {S D : Type 0} {goes : D → DeskEntry → D → Type 0} (acts : List Act) (d d' : DeskView S D goes) → ShowsAll acts d d' → GoesAll goes (entries_in acts) d.it d'.it
+all_gone {S} {D} {goes} [] d d' h = ap (λ (m : DeskView S D goes). m.it) h
+all_gone (noted e ∷ acts) d d' h = (h.0.it, h.1.went, all_gone acts h.0 d' h.2)
+all_gone (called call ∷ acts) d d' h = all_gone acts d d' h

@@ -109,7 +109,10 @@ counts_after n (a ∷ acts) = counts_after (counts_with n a) acts
 
 -- ---- the desk, as it shows itself
 
-pub record DeskView (S : Type 0) : Type 0 where
+-- a desk D that tells a setup of type S, and that goes on in this way
+pub record DeskView (S D : Type 0) (goes : D → DeskEntry → D → Type 0) : Type 0 where
+  -- itself
+  pub it : D
   pub is_open : Bool
   -- what it was made with
   pub made : S
@@ -124,21 +127,22 @@ Fails (send_failed n octets) old new = Rises old new
 Fails _ old new = new ≡ old
 
 -- the desk goes on by an entry
-pub record Shows {S : Type 0} (e : DeskEntry) (d d' : DeskView S) : Type 0 where
+pub record Shows {S D : Type 0} {goes : D → DeskEntry → D → Type 0} (e : DeskEntry) (d d' : DeskView S D goes) : Type 0 where
+  pub went : goes d.it e d'.it
   pub is_open : d'.is_open ≡ d.is_open
   pub made : d'.made ≡ d.made
   pub log : Grows d.log d'.log (e ∷ [])
   pub faults : Fails e d.faults d'.faults
 
 -- and by all entries, one after the other
-abbrev pub ShowsAll : {S : Type 0} → List Act → DeskView S → DeskView S → Type 0
+abbrev pub ShowsAll : {S D : Type 0} {goes : D → DeskEntry → D → Type 0} → List Act → DeskView S D goes → DeskView S D goes → Type 0
 ShowsAll [] d d' = d' ≡ d
-ShowsAll {S} (noted e ∷ acts) d d' = (m : DeskView S) × Shows e d m × ShowsAll acts m d'
+ShowsAll {S} {D} {goes} (noted e ∷ acts) d d' = (m : DeskView S D goes) × Shows e d m × ShowsAll acts m d'
 ShowsAll (called call ∷ acts) d d' = ShowsAll acts d d'
 
 -- ---- a plan is followed from p to q: there are acts for which the plan asks, one after the other; the desk went on by just
 -- their entries, the book by just their calls, and the counts count them
-pub record Follows {S : Type 0} (t : Table) (p q : Plan) (d d' : DeskView S) (b b' : Book) (n n' : Counts) : Type 0 where
+pub record Follows {S D : Type 0} {goes : D → DeskEntry → D → Type 0} (t : Table) (p q : Plan) (d d' : DeskView S D goes) (b b' : Book) (n n' : Counts) : Type 0 where
   pub acts : List Act
   pub leads : Leads p acts q
   pub shown : ShowsAll acts d d'
@@ -147,8 +151,8 @@ pub record Follows {S : Type 0} (t : Table) (p q : Plan) (d d' : DeskView S) (b 
 
 -- ---- what a desk shows, and how a plan goes on behind an event
 
-abbrev pub view_of : {S : Type 0} → Bool → S → Option (List DeskEntry) → ℕ → DeskView S
-view_of is_open made log faults = record { is_open = is_open; made = made; log = log; faults = faults }
+abbrev pub view_of : {S D : Type 0} {goes : D → DeskEntry → D → Type 0} → D → Bool → S → Option (List DeskEntry) → ℕ → DeskView S D goes
+view_of it is_open made log faults = record { it = it; is_open = is_open; made = made; log = log; faults = faults }
 
 abbrev pub heard_plan : (Timed → List ℕ → Plan) → Plan → List ℕ → Option Timed → Plan
 heard_plan given failed buf None = failed

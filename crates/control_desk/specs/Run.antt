@@ -153,3 +153,16 @@ pub record HasRun (t : Table) (f : Setting) (turns : ℕ) (s : DeskState) (log l
   pub written : Grows log log' (entries_in acts ++ finished ∷ [])
   pub made : MakesAll t acts book book'
   pub counted : counts_of tally ≡ counts_after no_counts acts
+
+-- a desk goes on by these entries, one after the other
+abbrev pub GoesAll : {D : Type 0} → (D → DeskEntry → D → Type 0) → List DeskEntry → D → D → Type 0
+GoesAll goes [] d d' = d' ≡ d
+GoesAll {D} goes (e ∷ entries) d d' = (m : D) × goes d e m × GoesAll goes entries m d'
+
+-- The same of a desk that tells how it goes on, also where it tells no log: it went on by just the entries of these acts
+pub record HasGone {D : Type 0} (goes : D → DeskEntry → D → Type 0) (t : Table) (f : Setting) (turns : ℕ) (s : DeskState) (d d' : D) (book book' : Book) (tally : DeskTally) : Type 0 where
+  pub acts : List Act
+  pub leads : Leads (desk_plan f turns 0 s) acts (stop tally.end)
+  pub gone : GoesAll goes (entries_in acts ++ finished ∷ []) d d'
+  pub made : MakesAll t acts book book'
+  pub counted : counts_of tally ≡ counts_after no_counts acts

@@ -5,7 +5,7 @@ ghost use Rattle.session_desk.specs.Book.{IsBookOf};
 ghost use Rattle.session_desk.specs.Going.{DeskWent};
 ghost use Rattle.control_desk.specs.Faults.{AreFaultsTold};
 ghost use Rattle.control_desk.specs.Connections.{first_room};
-ghost use Rattle.control_desk.specs.Run.{HasRun};
+ghost use Rattle.control_desk.specs.Run.{HasGone, HasRun};
 
 use crate::connections::CONNECTION_LIMIT;
 use crate::counts::{Counts, DeskTally};
@@ -79,6 +79,7 @@ pub fn run_desk<D: Desk>(
     requires open { IsTrue (D.is_open desk.old) }
     requires book { IsBookOf table.now book.old }
     ensures run { HasRun table.now room.old.setting turns room.old.state (D.log desk.old) (D.log desk.new) book.old book.new result }
+    ensures gone { HasGone D.goes table.now room.old.setting turns room.old.state desk.old desk.new book.old book.new result }
     ensures went { DeskWent table.now book.old book.new }
     ensures faults { AreFaultsTold (D.faults desk.old) (D.faults desk.new) result.faults }
     ensures made { D.made desk.new ≡ D.made desk.old }

@@ -170,7 +170,7 @@ fn end_side<D: Shown>(
 )
     requires book { IsBookOf table.now book.old }
     ensures book { IsBookOf table.now book.new }
-    ensures done { (d : DeskView D.Setup) (s : DeskState) (n : ℕ) (next : DeskState → Plan) →
+    ensures done { (d : DeskView D.Setup D D.steps) (s : DeskState) (n : ℕ) (next : DeskState → Plan) →
         Follows table.now (closed_plan s n next (Some gone.now.side)) (next (without s n)) d d book.old book.new counts.old counts.new }
 {
     match &gone.side {
@@ -197,7 +197,7 @@ pub(crate) fn hear_closed<D: Shown>(
 )
     requires book { IsBookOf table.now book.old }
     ensures book { IsBookOf table.now book.new }
-    ensures done { (d : DeskView D.Setup) (next : DeskState → Plan) →
+    ensures done { (d : DeskView D.Setup D D.steps) (next : DeskState → Plan) →
         Follows table.now (closed_plan (state_of places.old) conn next (side_in places.old.connections.items conn)) (next (state_of places.new)) d d book.old book.new counts.old counts.new }
 {
     let Some(at) = index_of(&places.connections, conn) else {

@@ -22,7 +22,7 @@ pub(crate) fn start_sessions<D: Shown>(
 )
     requires book { IsBookOf table.now book.old }
     ensures book { IsBookOf table.now book.new }
-    ensures done { (d : DeskView D.Setup) (n : declared.Counts) (more : Plan) →
+    ensures done { (d : DeskView D.Setup D D.steps) (n : declared.Counts) (more : Plan) →
         Follows table.now (start_all now own.now more) more d d book.old book.new n n }
 {
     for session in own {
@@ -34,7 +34,7 @@ pub(crate) fn start_sessions<D: Shown>(
 pub(crate) fn abandon_sessions<D: Shown>(table: &Table, book: &mut DeskBook, own: &[OwnSession])
     requires book { IsBookOf table.now book.old }
     ensures book { IsBookOf table.now book.new }
-    ensures done { (d : DeskView D.Setup) (n : declared.Counts) (more : Plan) →
+    ensures done { (d : DeskView D.Setup D D.steps) (n : declared.Counts) (more : Plan) →
         Follows table.now (abandon_all own.now more) more d d book.old book.new n n }
 {
     for session in own {
@@ -50,7 +50,7 @@ fn same_place(a: &Place, b: &Place) -> bool
 
 /// Whether a started session is the connection's still.
 fn is_own<D: Shown>(table: &Table, book: &DeskBook, session: &OwnSession) -> bool
-    ensures { (d : DeskView D.Setup) (n : declared.Counts) (act more : Plan) →
+    ensures { (d : DeskView D.Setup D D.steps) (n : declared.Counts) (act more : Plan) →
         Follows table.now (live_place session.now.key (while_own session.now act more)) (if result then act else more) d d book.now book.now n n }
 {
     match book.live_place(&session.key) {
@@ -68,7 +68,7 @@ fn close_session<D: Shown>(
 )
     requires book { IsBookOf table.now book.old }
     ensures book { IsBookOf table.now book.new }
-    ensures done { (d : DeskView D.Setup) (more : Plan) →
+    ensures done { (d : DeskView D.Setup D D.steps) (more : Plan) →
         Follows table.now (close_one session.now more) more d d book.old book.new counts.old counts.new }
 {
     if !is_own::<D>(table, book, session) {
@@ -89,7 +89,7 @@ pub(crate) fn close_sessions<D: Shown>(
 )
     requires book { IsBookOf table.now book.old }
     ensures book { IsBookOf table.now book.new }
-    ensures done { (d : DeskView D.Setup) (more : Plan) →
+    ensures done { (d : DeskView D.Setup D D.steps) (more : Plan) →
         Follows table.now (close_all own.now more) more d d book.old book.new counts.old counts.new }
 {
     for session in own {
@@ -108,7 +108,7 @@ fn closing_moment(now: u64, session: &OwnSession) -> u64
 fn close_session_at<D: Shown>(table: &Table, book: &mut DeskBook, now: u64, session: &OwnSession)
     requires book { IsBookOf table.now book.old }
     ensures book { IsBookOf table.now book.new }
-    ensures done { (d : DeskView D.Setup) (n : declared.Counts) (more : Plan) →
+    ensures done { (d : DeskView D.Setup D D.steps) (n : declared.Counts) (more : Plan) →
         Follows table.now (close_one_at now session.now more) more d d book.old book.new n n }
 {
     if is_own::<D>(table, book, session) {
@@ -126,7 +126,7 @@ pub(crate) fn close_sessions_at<D: Shown>(
 )
     requires book { IsBookOf table.now book.old }
     ensures book { IsBookOf table.now book.new }
-    ensures done { (d : DeskView D.Setup) (n : declared.Counts) (more : Plan) →
+    ensures done { (d : DeskView D.Setup D D.steps) (n : declared.Counts) (more : Plan) →
         Follows table.now (close_all_at now own.now more) more d d book.old book.new n n }
 {
     for session in own {
@@ -144,7 +144,7 @@ pub(crate) fn stop_sessions<D: Shown>(
 )
     requires book { IsBookOf table.now book.old }
     ensures book { IsBookOf table.now book.new }
-    ensures done { (d : DeskView D.Setup) (n : declared.Counts) (more : Plan) →
+    ensures done { (d : DeskView D.Setup D D.steps) (n : declared.Counts) (more : Plan) →
         Follows table.now (stop_all stage now own.now more) more d d book.old book.new n n }
 {
     match stage {
@@ -165,7 +165,7 @@ pub(crate) fn end_sessions<D: Shown>(
 )
     requires book { IsBookOf table.now book.old }
     ensures book { IsBookOf table.now book.new }
-    ensures done { (d : DeskView D.Setup) (more : Plan) →
+    ensures done { (d : DeskView D.Setup D D.steps) (more : Plan) →
         Follows table.now (end_all stage own.now more) more d d book.old book.new counts.old counts.new }
 {
     match stage {

@@ -209,7 +209,7 @@ fn try_one<D: Shown>(
 ) -> Tried
     requires book { IsBookOf table.now book.old }
     ensures book { IsBookOf table.now book.new }
-    ensures done { (d : DeskView D.Setup) (n : declared.Counts) (next : NextAnswer) (more : Plan) →
+    ensures done { (d : DeskView D.Setup D D.steps) (n : declared.Counts) (next : NextAnswer) (more : Plan) →
         Follows table.now (reserve (key_at (record { local = local; port = port }) from.now request.now.sender_port) extra.now config.now reserved_wait
         (tried (key_at (record { local = local; port = port }) from.now request.now.sender_port) port request.now next more)) (after_tried result next more) d d book.old book.new n n }
 {
@@ -247,7 +247,7 @@ fn try_local<D: Shown>(
 ) -> Tried
     requires book { IsBookOf table.now book.old }
     ensures book { IsBookOf table.now book.new }
-    ensures done { (d : DeskView D.Setup) (n : declared.Counts) (next : NextAnswer) (rest : List Candidate) →
+    ensures done { (d : DeskView D.Setup D D.steps) (n : declared.Counts) (next : NextAnswer) (rest : List Candidate) →
         Follows table.now (try_all config.now extra.now from.now request.now next (chosen_one (is_candidate request.now.v6 to.now request.now.receiver_port wanted) number local.now ++ rest))
         (after_tried result next (try_all config.now extra.now from.now request.now next rest)) d d book.old book.new n n }
 {
@@ -274,7 +274,7 @@ fn try_locals<D: Shown>(
     requires book { IsBookOf table.now book.old }
     requires few { length locals.now ≤ 16 }
     ensures book { IsBookOf table.now book.new }
-    ensures done { (d : DeskView D.Setup) (n : declared.Counts) (next : NextAnswer) (rest : List Candidate) →
+    ensures done { (d : DeskView D.Setup D D.steps) (n : declared.Counts) (next : NextAnswer) (rest : List Candidate) →
         Follows table.now (try_all config.now extra.now from.now request.now next (chosen (is_candidate request.now.v6 to.now request.now.receiver_port wanted) 0 locals.now ++ rest))
         (after_tried result next (try_all config.now extra.now from.now request.now next rest)) d d book.old book.new n n }
 {
@@ -303,7 +303,7 @@ fn try_candidates<D: Shown>(
     requires book { IsBookOf table.now book.old }
     requires few { length locals.now ≤ 16 }
     ensures book { IsBookOf table.now book.new }
-    ensures done { (d : DeskView D.Setup) (n : declared.Counts) (next : NextAnswer) →
+    ensures done { (d : DeskView D.Setup D D.steps) (n : declared.Counts) (next : NextAnswer) →
         Follows table.now (try_all config.now extra.now from.now request.now next (candidates locals.now request.now.v6 to.now request.now.receiver_port))
         (after_tried result next (next (answers.Refused 5) [])) d d book.old book.new n n }
 {
@@ -328,7 +328,7 @@ pub(crate) fn reserve_session<D: Shown>(
     ensures book { IsBookOf table.now book.new }
     ensures fits { IsTrue (fits (ask.Reserve request.now) result) }
     ensures machine { side.new.machine ≡ side.old.machine }
-    ensures done { (f : Setting) (d : DeskView D.Setup) (n : declared.Counts) (next : DeclaredAnswer → DeclaredSide → Plan) →
+    ensures done { (f : Setting) (d : DeskView D.Setup D D.steps) (n : declared.Counts) (next : DeclaredAnswer → DeclaredSide → Plan) →
         f.locals ≡ locals.now → f.twamp ≡ twamp.now →
         Follows table.now (request_plan f side.old request.now (λ answer own. next answer (with_own side.old own))) (next result side.new) d d book.old book.new n n }
 {

@@ -7,14 +7,16 @@ use net_io::{Desk, PIECE_ROOM, Timed};
 pub trait Shown: Desk {
     ghost use Rattle.std.specs.Prelude.{◌≡◌, ◌≤◌, ℕ, List, IsTrue, IfSome, length, take, if◌then◌else◌};
     ghost use Rattle.net_io.specs.declared.desk.Timed.{Timed};
-    ghost use Rattle.net_io.specs.Desk.{octet_count};
+    ghost use Rattle.net_io.specs.Desk.{DeskEntry, octet_count};
     ghost use Rattle.session_rule.specs.declared.seats.Table.{Table};
     ghost use Rattle.session_desk.specs.Book.{Book};
     ghost use Rattle.control_desk.specs.declared.counts.Counts as declared;
     ghost use Rattle.control_desk.specs.Plan.{DeskView, Plan, Follows, hear, heard_plan, send, hang_up};
 
+    // How it goes on by an entry of its log.
+    ghost steps: { Self → DeskEntry → Self → Type 0 };
     // What it shows of itself.
-    ghost shown: { Self → DeskView Self.Setup };
+    ghost shown: { Self → DeskView Self.Setup Self steps };
 
     /// Waits for the next event, and counts it or the failure. The octets that come with it stand at the front of the buffer.
     fn take_event(&mut self, counts: &mut Counts, buf: &mut [u8; PIECE_ROOM]) -> Option<Timed>
@@ -37,13 +39,15 @@ pub trait Shown: Desk {
 impl<D: Desk> Shown for D {
     ghost use Rattle.std.specs.Prelude.{◌≡◌, ◌≤◌, ℕ, List, IsTrue, IfSome, length, take, if◌then◌else◌};
     ghost use Rattle.net_io.specs.declared.desk.Timed.{Timed};
-    ghost use Rattle.net_io.specs.Desk.{octet_count};
+    ghost use Rattle.net_io.specs.Desk.{DeskEntry, octet_count};
     ghost use Rattle.session_rule.specs.declared.seats.Table.{Table};
     ghost use Rattle.session_desk.specs.Book.{Book};
     ghost use Rattle.control_desk.specs.declared.counts.Counts as declared;
     ghost use Rattle.control_desk.specs.Plan.{DeskView, Plan, Follows, view_of, hear, heard_plan, send, hang_up};
 
-    ghost shown = { λ d. view_of (D.is_open d) (D.made d) (D.log d) (D.faults d) };
+    ghost steps = { D.goes };
+
+    ghost shown = { λ d. view_of d (D.is_open d) (D.made d) (D.log d) (D.faults d) };
 
     fn take_event(&mut self, counts: &mut Counts, buf: &mut [u8; PIECE_ROOM]) -> Option<Timed> {
         match self.next(buf) {

@@ -66,6 +66,8 @@ pub trait Desk {
     ghost made: { Self → Self.Setup };
     // How often it has failed.
     ghost faults: { Self → ℕ };
+    // How it goes on by an entry of its log, whether the log is told or not: from what it was before the call, to what it is then.
+    ghost goes: { Self → DeskEntry → Self → Type 0 } = { λ _ _ _. Unit {0} };
 
     /// Listens for control connections and for operators, where there is an address for them. Where that fails, the desk is
     /// open only if it was before.
@@ -79,6 +81,7 @@ pub trait Desk {
         ensures coming { coming self.new ≡ coming self.old }
         ensures log { Grows (log self.old) (log self.new) (open_entry control operator result ∷ []) }
         ensures made { made self.new ≡ made self.old }
+        ensures goes { goes self.old (open_entry control operator result) self.new }
         ensures still { OnOk result (faults self.new ≡ faults self.old) }
         ensures cause { OnErr result (Rises (faults self.old) (faults self.new)) };
 
@@ -91,6 +94,7 @@ pub trait Desk {
         ensures coming { Gives (coming self.old) (coming self.new) buf.new result }
         ensures log { Grows (log self.old) (log self.new) (next_entry buf.new result ∷ []) }
         ensures made { made self.new ≡ made self.old }
+        ensures goes { goes self.old (next_entry buf.new result) self.new }
         ensures still { OnOk result (faults self.new ≡ faults self.old) }
         ensures cause { OnErr result (Rises (faults self.old) (faults self.new)) };
 
@@ -100,6 +104,7 @@ pub trait Desk {
         ensures coming { coming self.new ≡ coming self.old }
         ensures log { Grows (log self.old) (log self.new) (send_entry conn octets.now result ∷ []) }
         ensures made { made self.new ≡ made self.old }
+        ensures goes { goes self.old (send_entry conn octets.now result) self.new }
         ensures still { OnOk result (faults self.new ≡ faults self.old) }
         ensures cause { OnErr result (Rises (faults self.old) (faults self.new)) };
 
@@ -109,6 +114,7 @@ pub trait Desk {
         ensures coming { coming self.new ≡ coming self.old }
         ensures log { Grows (log self.old) (log self.new) (hung_up conn ∷ []) }
         ensures made { made self.new ≡ made self.old }
+        ensures goes { goes self.old (hung_up conn) self.new }
         ensures still { faults self.new ≡ faults self.old };
 
     /// Says that the desk has ended.
@@ -116,5 +122,6 @@ pub trait Desk {
         ensures coming { coming self.new ≡ coming self.old }
         ensures log { Grows (log self.old) (log self.new) (finished ∷ []) }
         ensures made { made self.new ≡ made self.old }
+        ensures goes { goes self.old finished self.new }
         ensures still { faults self.new ≡ faults self.old };
 }

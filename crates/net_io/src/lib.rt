@@ -10,7 +10,7 @@ mod script_port;
 mod tests;
 
 pub use desk::{ConnKind, Desk, DeskEvent, PIECE_ROOM, Timed};
-pub use log::Log;
+pub use log::{Log, extend_within};
 pub use port::{DATAGRAM_ROOM, Got, Port};
 pub use script_desk::{DeskDeed, DeskItem, ScriptDesk};
 pub use script_port::{PortDeed, PortItem, ScriptPort};

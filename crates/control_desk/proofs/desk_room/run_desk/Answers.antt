@@ -8,7 +8,7 @@ use Rattle.control_desk.specs.State.{Room, Setting}
 use Rattle.control_desk.specs.Plan.{Leads, stop, entries_in}
 use Rattle.control_desk.specs.Run.{no_counts, desk_plan}
 use Rattle.control_desk.specs.Faults.{AreFaultsTold}
-use Rattle.control_desk.proofs.RunFacts.{grows_then, log_grows, made_stays, faults_told, book_went}
+use Rattle.control_desk.proofs.RunFacts.{all_gone, gone_then, grows_then, log_grows, made_stays, faults_told, book_went}
 use Rattle.control_desk.proofs.desk_room.run_desk.Goals as goal
 
 pub returns-clause-run : goal.returns-clause-run
@@ -19,6 +19,18 @@ returns-clause-run g c =
       acts = run.acts;
       leads = subst (λ (r : Room). Leads (desk_plan r.setting c.args.turns 0 r.state) run.acts (stop c.hear_all-end.result)) c.room.view_is run.leads;
       written = grows_then _ _ _ (entries_in run.acts) (finished ∷ []) (log_grows run.acts _ _ run.shown) c.finish.ensures.log;
+      made = run.made;
+      counted = run.counted;
+    }
+
+pub returns-clause-gone : goal.returns-clause-gone
+returns-clause-gone g c =
+    let f : Setting = record { locals = c.room.inside.locals.items; twamp = c.room.inside.twamp } in
+    let run = c.hear_all-end.ensures.done f (sym c.deref.ensures.value) refl in
+    record {
+      acts = run.acts;
+      leads = subst (λ (r : Room). Leads (desk_plan r.setting c.args.turns 0 r.state) run.acts (stop c.hear_all-end.result)) c.room.view_is run.leads;
+      gone = gone_then _ (entries_in run.acts) (finished ∷ []) _ _ _ (all_gone run.acts _ _ run.shown) (_, c.finish.ensures.goes, refl);
       made = run.made;
       counted = run.counted;
     }

@@ -8,5 +8,5 @@ use Rattle.control_desk.proofs.own_calls.close_sessions_at.Given as goal
 abbrev pub invariant-loop-session : goal.invariant-loop-session
 invariant-loop-session g l = record {
   book : IsBookOf l.table l.book;
-  done : (d : DeskView g.row.D-Setup.Denot) (n : Counts) (more : Plan) → Follows l.table (close_all_at l.now l.own more) (close_all_at l.now (drop l.session-index l.own) more) d d l.fn.book l.book n n;
+  done : (d : DeskView g.row.D-Setup.Denot g.row.D.Denot g.D.Shown.steps) (n : Counts) (more : Plan) → Follows l.table (close_all_at l.now l.own more) (close_all_at l.now (drop l.session-index l.own) more) d d l.fn.book l.book n n;
 }

@@ -9,9 +9,9 @@ returns-in-Ok-clause-done g c = λ t given failed b.
     let timed = c.in-Ok.timed in
     let octets = take (octet_count timed.event) c.next.new.buf in
     follows_noted (hear given failed) (given timed octets) (gave timed octets) b refl
-    (record { is_open = c.in-Ok.ensures.open; made = c.in-Ok.ensures.made; log = c.in-Ok.ensures.log; faults = c.in-Ok.ensures.still }) c.add_event.ensures
+    (record { went = c.in-Ok.ensures.goes; is_open = c.in-Ok.ensures.open; made = c.in-Ok.ensures.made; log = c.in-Ok.ensures.log; faults = c.in-Ok.ensures.still }) c.add_event.ensures
 
 pub returns-in-Err-clause-done : goal.returns-in-Err-clause-done
 returns-in-Err-clause-done g c = λ t given failed b.
     follows_noted (hear given failed) failed next_failed b refl
-    (record { is_open = c.in-Err.ensures.open; made = c.in-Err.ensures.made; log = c.in-Err.ensures.log; faults = c.in-Err.ensures.cause }) c.add_fault.ensures
+    (record { went = c.in-Err.ensures.goes; is_open = c.in-Err.ensures.open; made = c.in-Err.ensures.made; log = c.in-Err.ensures.log; faults = c.in-Err.ensures.cause }) c.add_fault.ensures
