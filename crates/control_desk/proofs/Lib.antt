@@ -9,3 +9,4 @@ pub mod IndexFacts
 pub mod RunFacts
 pub mod IdleFacts
 pub mod Samples
+mod HandsFacts

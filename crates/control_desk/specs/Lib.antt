@@ -5,3 +5,4 @@ pub mod Connections
 pub mod Control
 pub mod Run
 pub mod Faults
+pub mod Hands

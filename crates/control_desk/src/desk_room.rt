@@ -1,6 +1,6 @@
 //! The room of a desk, and its run.
 
-ghost use Rattle.std.specs.Prelude.{◌≡◌, ◌≤◌, IsTrue, IfOk};
+ghost use Rattle.std.specs.Prelude.{◌≡◌, IsTrue, IfOk};
 ghost use Rattle.session_desk.specs.Book.{IsBookOf};
 ghost use Rattle.session_desk.specs.Going.{DeskWent};
 ghost use Rattle.control_desk.specs.Faults.{AreFaultsTold};
@@ -9,12 +9,14 @@ ghost use Rattle.control_desk.specs.Run.{HasGone, HasRun};
 
 use crate::connections::CONNECTION_LIMIT;
 use crate::counts::{Counts, DeskTally};
+use crate::hands::Hands;
 use crate::names::Names;
 use crate::room::Places;
 use crate::running::hear_all;
+use crate::setting::Setting;
 use conf_text::Conf;
 use net_io::Desk;
-use refl_types::{Config, LocalAddr, Memory};
+use refl_types::Memory;
 use session_desk::{DeskBook, law_calls_go_on};
 use session_rule::Table;
 use std::alloc::Global;
@@ -24,21 +26,17 @@ use std::marker::Model;
 /// connections. Contracts see it as a `Room`.
 #[derive(Drop)]
 pub struct DeskRoom {
-    locals: Vec<LocalAddr>,
-    twamp: Option<Config>,
+    setting: Setting,
     places: Places,
 }
 
 impl Model for DeskRoom {
-    ghost use Rattle.std.specs.Prelude.{◌≤◌, vec_len};
     ghost use Rattle.control_desk.specs.State.{Room};
     ghost use Rattle.control_desk.specs.Connections.{state_of};
 
     ghost Value = { Room };
 
-    ghost view = { λ r. record { setting = record { locals = r.locals.items; twamp = r.twamp }; state = state_of r.places } };
-
-    ghost invariant = { λ r. vec_len r.locals ≤ 16 };
+    ghost view = { λ r. record { setting = r.setting; state = state_of r.places } };
 }
 
 impl DeskRoom {
@@ -60,8 +58,7 @@ impl DeskRoom {
             started: None,
         };
         Ok(DeskRoom {
-            locals,
-            twamp: *conf.twamp(),
+            setting: Setting::new(locals, *conf.twamp()),
             places,
         })
     }
@@ -93,16 +90,13 @@ pub fn run_desk<D: Desk>(
         closed: 0,
         expired: 0,
     };
-    let end = hear_all(
-        &room.locals,
-        &room.twamp,
-        &mut room.places,
+    let mut hands = Hands {
         table,
-        book,
-        desk,
-        &mut counts,
-        turns,
-    );
+        book: &mut *book,
+        desk: &mut *desk,
+        counts: &mut counts,
+    };
+    let end = hear_all(&room.setting, &mut room.places, &mut hands, turns);
     desk.finish();
     DeskTally {
         events: counts.events,

@@ -8,6 +8,7 @@ ghost use Rattle.control_desk.specs.Operator.{HasSoundKey};
 ghost use Rattle.operator_lines.specs.Lines.{no_extra};
 ghost use Rattle.operator_lines.specs.Reading.{line_from};
 ghost use Rattle.control_desk.specs.State.{Setting, DeskState, settled, at_names, without, config_in};
+ghost use Rattle.control_desk.specs.Hands.{AreSame, Works};
 ghost use Rattle.control_desk.specs.Plan.{Plan, Follows, close, count, reserve, live_at, live_len};
 ghost use Rattle.control_desk.specs.Operator.{
   Next,
@@ -29,55 +30,55 @@ ghost use Rattle.control_desk.specs.declared.counts.Verdict.TheVariants.{Over, Q
 
 use crate::answering::{answer, send_line};
 use crate::counts::{Counts, Verdict};
+use crate::hands::{Hands, Heard};
 use crate::names::Names;
+use crate::setting::Setting;
 use crate::shown::Shown;
 use operator_lines::{Answer, Line, Refusal, read_line};
-use refl_types::{Config, Extra, Key, LocalAddr};
-use session_desk::{DeskBook, ReserveFault, SetFault};
+use refl_types::{Config, Extra, Key};
+use session_desk::{ReserveFault, SetFault};
 use session_octets::config_at;
 use session_rule::Table;
 use text_forms::Name;
 
 /// The line `close`.
-fn close_line<D: Shown>(
-    table: &Table,
-    book: &mut DeskBook,
-    desk: &mut D,
-    counts: &mut Counts,
-    conn: u32,
-    key: &Key,
-) -> Verdict
-    requires book { IsBookOf table.now book.old }
-    ensures book { IsBookOf table.now book.new }
+fn close_line<D: Shown>(hands: &mut Hands<D>, conn: u32, key: &Key) -> Verdict
+    requires book { IsBookOf hands.old.table.now hands.old.book.now }
+    ensures same { AreSame hands.old hands.new }
+    ensures book { IsBookOf hands.new.table.now hands.new.book.now }
     ensures done { (s : DeskState) (next : Next) →
-        Follows table.now (close key.now (number_plan conn s next)) (next result (settled result conn s)) (D.shown desk.old) (D.shown desk.new) book.old book.new counts.old counts.new }
+        Works D.shown (close key.now (number_plan conn s next)) (next result (settled result conn s)) hands.old hands.new }
 {
-    match book.close(table, key) {
+    match hands.book.close(hands.table, key) {
         Ok(number) => {
-            counts.add_closed();
-            answer(desk, counts, conn, &Answer::Number(number))
+            hands.counts.add_closed();
+            answer(hands.desk, hands.counts, conn, &Answer::Number(number))
         }
-        Err(_) => answer(desk, counts, conn, &Answer::Refused(Refusal::NoSuch)),
+        Err(_) => answer(
+            hands.desk,
+            hands.counts,
+            conn,
+            &Answer::Refused(Refusal::NoSuch),
+        ),
     }
 }
 
 /// The line `count`.
-fn count_line<D: Shown>(
-    table: &Table,
-    book: &mut DeskBook,
-    desk: &mut D,
-    counts: &mut Counts,
-    conn: u32,
-    key: &Key,
-) -> Verdict
-    requires book { IsBookOf table.now book.old }
-    ensures book { IsBookOf table.now book.new }
+fn count_line<D: Shown>(hands: &mut Hands<D>, conn: u32, key: &Key) -> Verdict
+    requires book { IsBookOf hands.old.table.now hands.old.book.now }
+    ensures same { AreSame hands.old hands.new }
+    ensures book { IsBookOf hands.new.table.now hands.new.book.now }
     ensures done { (s : DeskState) (next : Next) →
-        Follows table.now (count key.now (number_plan conn s next)) (next result (settled result conn s)) (D.shown desk.old) (D.shown desk.new) book.old book.new counts.old counts.new }
+        Works D.shown (count key.now (number_plan conn s next)) (next result (settled result conn s)) hands.old hands.new }
 {
-    match book.count(table, key) {
-        Ok(number) => answer(desk, counts, conn, &Answer::Number(number)),
-        Err(_) => answer(desk, counts, conn, &Answer::Refused(Refusal::NoSuch)),
+    match hands.book.count(hands.table, key) {
+        Ok(number) => answer(hands.desk, hands.counts, conn, &Answer::Number(number)),
+        Err(_) => answer(
+            hands.desk,
+            hands.counts,
+            conn,
+            &Answer::Refused(Refusal::NoSuch),
+        ),
     }
 }
 
@@ -145,64 +146,79 @@ fn reserve_refusal(fault: &ReserveFault) -> Refusal
 
 /// Reserves and starts a session.
 fn open_under<D: Shown>(
-    table: &Table,
-    book: &mut DeskBook,
-    desk: &mut D,
-    counts: &mut Counts,
-    conn: u32,
-    now: u64,
+    hands: &mut Hands<D>,
+    heard: Heard,
     key: &Key,
     wait: u64,
     config: &Config,
 ) -> Verdict
-    requires book { IsBookOf table.now book.old }
+    requires book { IsBookOf hands.old.table.now hands.old.book.now }
     requires sound { is_sound key.now no_extra ≡ true }
-    ensures book { IsBookOf table.now book.new }
+    ensures same { AreSame hands.old hands.new }
+    ensures book { IsBookOf hands.new.table.now hands.new.book.now }
     ensures done { (s : DeskState) (next : Next) →
-        Follows table.now (reserve key.now no_extra config.now wait (reserved_plan conn now s next)) (next result (settled result conn s)) (D.shown desk.old) (D.shown desk.new) book.old book.new counts.old counts.new }
+        Works D.shown (reserve key.now no_extra config.now wait (reserved_plan heard.conn heard.now s next)) (next result (settled result heard.conn s)) hands.old hands.new }
 {
     let extra = Extra {
         symmetrical: false,
         reflect: 0,
     };
-    match book.reserve(table, key, &extra, config, wait) {
+    match hands.book.reserve(hands.table, key, &extra, config, wait) {
         Ok(place) => {
-            let _answer = book.start(table, &place, now);
-            answer(desk, counts, conn, &Answer::Done)
+            let _answer = hands.book.start(hands.table, &place, heard.now);
+            answer(hands.desk, hands.counts, heard.conn, &Answer::Done)
         }
         Err(fault) => {
             let refusal = reserve_refusal(&fault);
-            answer(desk, counts, conn, &Answer::Refused(refusal))
+            answer(
+                hands.desk,
+                hands.counts,
+                heard.conn,
+                &Answer::Refused(refusal),
+            )
         }
     }
 }
 
+/// What the line `open` says.
+#[derive(Clone, Copy, Drop)]
+struct Opening<'a> {
+    key: &'a Key,
+    name: &'a Name,
+    wait: u64,
+}
+
 /// The line `open`.
 fn open_line<D: Shown>(
-    locals: &[LocalAddr],
+    setting: &Setting,
     names: &Names,
-    table: &Table,
-    book: &mut DeskBook,
-    desk: &mut D,
-    counts: &mut Counts,
-    conn: u32,
-    now: u64,
-    key: &Key,
-    name: &Name,
-    wait: u64,
+    hands: &mut Hands<D>,
+    heard: Heard,
+    opening: &Opening<'_>,
 ) -> Verdict
-    requires book { IsBookOf table.now book.old }
-    requires sound { is_sound key.now no_extra ≡ true }
-    ensures book { IsBookOf table.now book.new }
-    ensures done { (f : Setting) (s : DeskState) (next : Next) → f.locals ≡ locals.now →
-        Follows table.now (open_plan f conn now (at_names s names.now) key.now name.now wait next) (next result (settled result conn (at_names s names.now))) (D.shown desk.old) (D.shown desk.new) book.old book.new counts.old counts.new }
+    requires book { IsBookOf hands.old.table.now hands.old.book.now }
+    requires sound { is_sound opening.now.key.now no_extra ≡ true }
+    ensures same { AreSame hands.old hands.new }
+    ensures book { IsBookOf hands.new.table.now hands.new.book.now }
+    ensures done { (s : DeskState) (next : Next) →
+        Works D.shown (open_plan setting.now heard.conn heard.now (at_names s names.now) opening.now.key.now opening.now.name.now opening.now.wait next) (next result (settled result heard.conn (at_names s names.now))) hands.old hands.new }
 {
-    if key.local as usize >= locals.len() {
-        return answer(desk, counts, conn, &Answer::Refused(Refusal::Local));
+    if opening.key.local as usize >= setting.locals().len() {
+        return answer(
+            hands.desk,
+            hands.counts,
+            heard.conn,
+            &Answer::Refused(Refusal::Local),
+        );
     }
-    match names.find(name) {
-        None => answer(desk, counts, conn, &Answer::Refused(Refusal::NoConfig)),
-        Some(config) => open_under(table, book, desk, counts, conn, now, key, wait, &config),
+    match names.find(opening.name) {
+        None => answer(
+            hands.desk,
+            hands.counts,
+            heard.conn,
+            &Answer::Refused(Refusal::NoConfig),
+        ),
+        Some(config) => open_under(hands, heard, opening.key, opening.wait, &config),
     }
 }
 
@@ -220,80 +236,77 @@ fn set_refusal(fault: SetFault) -> Refusal
 /// The line `set`.
 fn set_line<D: Shown>(
     names: &Names,
-    table: &Table,
-    book: &mut DeskBook,
-    desk: &mut D,
-    counts: &mut Counts,
+    hands: &mut Hands<D>,
     conn: u32,
     key: &Key,
     name: &Name,
 ) -> Verdict
-    requires book { IsBookOf table.now book.old }
-    ensures book { IsBookOf table.now book.new }
+    requires book { IsBookOf hands.old.table.now hands.old.book.now }
+    ensures same { AreSame hands.old hands.new }
+    ensures book { IsBookOf hands.new.table.now hands.new.book.now }
     ensures done { (s : DeskState) (next : Next) →
-        Follows table.now (set_under conn (at_names s names.now) key.now next (config_in names.now name.now)) (next result (settled result conn (at_names s names.now))) (D.shown desk.old) (D.shown desk.new) book.old book.new counts.old counts.new }
+        Works D.shown (set_under conn (at_names s names.now) key.now next (config_in names.now name.now)) (next result (settled result conn (at_names s names.now))) hands.old hands.new }
 {
     let Some(config) = names.find(name) else {
-        return answer(desk, counts, conn, &Answer::Refused(Refusal::NoConfig));
+        return answer(
+            hands.desk,
+            hands.counts,
+            conn,
+            &Answer::Refused(Refusal::NoConfig),
+        );
     };
-    match book.set(table, key, &config) {
-        Ok(()) => answer(desk, counts, conn, &Answer::Done),
+    match hands.book.set(hands.table, key, &config) {
+        Ok(()) => answer(hands.desk, hands.counts, conn, &Answer::Done),
         Err(fault) => {
             let refusal = set_refusal(fault);
-            answer(desk, counts, conn, &Answer::Refused(refusal))
+            answer(hands.desk, hands.counts, conn, &Answer::Refused(refusal))
         }
     }
 }
 
 /// The line of the session at an index, where there is one. Whether the connection goes on.
-fn list_one<D: Shown>(
-    table: &Table,
-    book: &mut DeskBook,
-    desk: &mut D,
-    counts: &mut Counts,
-    conn: u32,
-    index: u32,
-) -> bool
-    requires book { IsBookOf table.now book.old }
-    ensures book { IsBookOf table.now book.new }
+fn list_one<D: Shown>(hands: &mut Hands<D>, conn: u32, index: u32) -> bool
+    requires book { IsBookOf hands.old.table.now hands.old.book.now }
+    ensures same { AreSame hands.old hands.new }
+    ensures book { IsBookOf hands.new.table.now hands.new.book.now }
     ensures done { (s : DeskState) (next : Next) (more : Plan) →
-        Follows table.now (live_at index (list_key conn s next more)) (if result then more else next Over (without s conn)) (D.shown desk.old) (D.shown desk.new) book.old book.new counts.old counts.new }
+        Works D.shown (live_at index (list_key conn s next more)) (if result then more else next Over (without s conn)) hands.old hands.new }
 {
-    let Some(key) = book.live_at(index) else {
+    let Some(key) = hands.book.live_at(index) else {
         return true;
     };
-    let Ok(number) = book.count(table, &key) else {
+    let Ok(number) = hands.book.count(hands.table, &key) else {
         return true;
     };
-    if send_line(desk, counts, conn, &Answer::Listed { key, number }) {
+    if send_line(
+        hands.desk,
+        hands.counts,
+        conn,
+        &Answer::Listed { key, number },
+    ) {
         return true;
     }
-    desk.drop_line(conn);
+    hands.desk.drop_line(conn);
     false
 }
 
 /// The line `list`.
-fn list_line<D: Shown>(
-    table: &Table,
-    book: &mut DeskBook,
-    desk: &mut D,
-    counts: &mut Counts,
-    conn: u32,
-) -> Verdict
-    requires book { IsBookOf table.now book.old }
-    ensures book { IsBookOf table.now book.new }
+fn list_line<D: Shown>(hands: &mut Hands<D>, conn: u32) -> Verdict
+    requires book { IsBookOf hands.old.table.now hands.old.book.now }
+    ensures same { AreSame hands.old hands.new }
+    ensures book { IsBookOf hands.new.table.now hands.new.book.now }
     ensures done { (s : DeskState) (next : Next) →
-        Follows table.now (live_len (λ all. list_from conn s next all 0 all)) (next result (settled result conn s)) (D.shown desk.old) (D.shown desk.new) book.old book.new counts.old counts.new }
+        Works D.shown (live_len (λ all. list_from conn s next all 0 all)) (next result (settled result conn s)) hands.old hands.new }
 {
-    let all = book.live_len();
+    let all = hands.book.live_len();
     let mut index = 0;
     while index < all {
-        if !list_one(table, book, desk, counts, conn, index) {
+        if !list_one(hands, conn, index) {
             return Verdict::Over;
         }
         index += 1;
     }
-    answer(desk, counts, conn, &Answer::Number(all))
+    answer(hands.desk, hands.counts, conn, &Answer::Number(all))
 }
 
 /// The line `quit`.
@@ -310,54 +323,60 @@ fn quit_line<D: Shown>(desk: &mut D, counts: &mut Counts, conn: u32) -> Verdict
 
 /// Does what a line says.
 fn do_line<D: Shown>(
-    locals: &[LocalAddr],
+    setting: &Setting,
     names: &mut Names,
-    table: &Table,
-    book: &mut DeskBook,
-    desk: &mut D,
-    counts: &mut Counts,
-    conn: u32,
-    now: u64,
+    hands: &mut Hands<D>,
+    heard: Heard,
     line: &Line,
 ) -> Verdict
-    requires book { IsBookOf table.now book.old }
+    requires book { IsBookOf hands.old.table.now hands.old.book.now }
     requires sound { HasSoundKey line.now }
-    ensures book { IsBookOf table.now book.new }
-    ensures done { (f : Setting) (s : DeskState) (next : Next) → f.locals ≡ locals.now →
-        Follows table.now (line_plan f conn now (at_names s names.old) next line.now) (next result (settled result conn (at_names s names.new))) (D.shown desk.old) (D.shown desk.new) book.old book.new counts.old counts.new }
+    ensures same { AreSame hands.old hands.new }
+    ensures book { IsBookOf hands.new.table.now hands.new.book.now }
+    ensures done { (s : DeskState) (next : Next) →
+        Works D.shown (line_plan setting.now heard.conn heard.now (at_names s names.old) next line.now) (next result (settled result heard.conn (at_names s names.new))) hands.old hands.new }
 {
     match line {
-        Line::Config { name, octets } => { config_line(names, desk, counts, conn, name, octets) }
-        Line::Open { key, name, wait } => open_line(
-            locals, names, table, book, desk, counts, conn, now, key, name, *wait,
-        ),
-        Line::Set { key, name } => { set_line(names, table, book, desk, counts, conn, key, name) }
-        Line::Close { key } => close_line(table, book, desk, counts, conn, key),
-        Line::Count { key } => count_line(table, book, desk, counts, conn, key),
-        Line::List => list_line(table, book, desk, counts, conn),
-        Line::Quit => quit_line(desk, counts, conn),
+        Line::Config { name, octets } => {
+            config_line(names, hands.desk, hands.counts, heard.conn, name, octets)
+        }
+        Line::Open { key, name, wait } => {
+            let opening = Opening {
+                key,
+                name,
+                wait: *wait,
+            };
+            open_line(setting, names, hands, heard, &opening)
+        }
+        Line::Set { key, name } => { set_line(names, hands, heard.conn, key, name) }
+        Line::Close { key } => close_line(hands, heard.conn, key),
+        Line::Count { key } => count_line(hands, heard.conn, key),
+        Line::List => list_line(hands, heard.conn),
+        Line::Quit => quit_line(hands.desk, hands.counts, heard.conn),
     }
 }
 
 /// Does what a line says, if it is one.
 pub(crate) fn hear_line<D: Shown>(
-    locals: &[LocalAddr],
+    setting: &Setting,
     names: &mut Names,
-    table: &Table,
-    book: &mut DeskBook,
-    desk: &mut D,
-    counts: &mut Counts,
-    conn: u32,
-    now: u64,
+    hands: &mut Hands<D>,
+    heard: Heard,
     octets: &[u8],
 ) -> Verdict
-    requires book { IsBookOf table.now book.old }
-    ensures book { IsBookOf table.now book.new }
-    ensures done { (f : Setting) (s : DeskState) (next : Next) → f.locals ≡ locals.now →
-        Follows table.now (read_plan f conn now (at_names s names.old) next (line_from octets.now)) (next result (settled result conn (at_names s names.new))) (D.shown desk.old) (D.shown desk.new) book.old book.new counts.old counts.new }
+    requires book { IsBookOf hands.old.table.now hands.old.book.now }
+    ensures same { AreSame hands.old hands.new }
+    ensures book { IsBookOf hands.new.table.now hands.new.book.now }
+    ensures done { (s : DeskState) (next : Next) →
+        Works D.shown (read_plan setting.now heard.conn heard.now (at_names s names.old) next (line_from octets.now)) (next result (settled result heard.conn (at_names s names.new))) hands.old hands.new }
 {
     match read_line(octets) {
-        Ok(line) => do_line(locals, names, table, book, desk, counts, conn, now, &line),
-        Err(_) => answer(desk, counts, conn, &Answer::Refused(Refusal::Line)),
+        Ok(line) => do_line(setting, names, hands, heard, &line),
+        Err(_) => answer(
+            hands.desk,
+            hands.counts,
+            heard.conn,
+            &Answer::Refused(Refusal::Line),
+        ),
     }
 }

@@ -3,10 +3,12 @@
 ghost use Rattle.std.specs.Prelude.{◌≡◌, if◌then◌else◌};
 ghost use Rattle.session_desk.specs.Book.{IsBookOf};
 ghost use Rattle.control_desk.specs.declared.counts.Counts as declared;
+ghost use Rattle.control_desk.specs.Hands.{AreSame, Works};
 ghost use Rattle.control_desk.specs.Plan.{Plan, Follows, DeskView, live_place};
 ghost use Rattle.control_desk.specs.Control.{same_place, start_all, abandon_all, while_own, close_one, close_all, closing_moment, close_one_at, close_all_at, stop_all, end_all, hang_up_plan};
 
 use crate::counts::Counts;
+use crate::hands::Hands;
 use crate::own::OwnSession;
 use crate::shown::Shown;
 use session_desk::{DeskBook, Place};
@@ -178,19 +180,17 @@ pub(crate) fn end_sessions<D: Shown>(
 
 /// Hangs a control connection up, and then ends its sessions.
 pub(crate) fn hang_up_control<D: Shown>(
-    table: &Table,
-    book: &mut DeskBook,
-    desk: &mut D,
-    counts: &mut Counts,
+    hands: &mut Hands<D>,
     conn: u32,
     stage: Stage,
     own: &[OwnSession],
 )
-    requires book { IsBookOf table.now book.old }
-    ensures book { IsBookOf table.now book.new }
+    requires book { IsBookOf hands.old.table.now hands.old.book.now }
+    ensures same { AreSame hands.old hands.new }
+    ensures book { IsBookOf hands.new.table.now hands.new.book.now }
     ensures done { (gone : Plan) →
-        Follows table.now (hang_up_plan conn stage own.now gone) gone (D.shown desk.old) (D.shown desk.new) book.old book.new counts.old counts.new }
+        Works D.shown (hang_up_plan conn stage own.now gone) gone hands.old hands.new }
 {
-    desk.drop_line(conn);
-    end_sessions::<D>(table, book, counts, stage, own);
+    hands.desk.drop_line(conn);
+    end_sessions::<D>(hands.table, hands.book, hands.counts, stage, own);
 }

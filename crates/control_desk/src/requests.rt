@@ -196,30 +196,37 @@ fn tries_next(tried: &Tried) -> bool
     }
 }
 
+/// A request under its configuration, between these addresses.
+#[derive(Clone, Copy, Drop)]
+struct Wish<'a> {
+    config: &'a Config,
+    extra: &'a Extra,
+    from: &'a Address,
+    to: &'a Address,
+    request: &'a Request,
+}
+
 /// Tries a candidate.
 fn try_one<D: Shown>(
     table: &Table,
     book: &mut DeskBook,
-    config: &Config,
-    extra: &Extra,
-    from: &Address,
-    request: &Request,
+    wish: &Wish<'_>,
     local: u16,
     port: u16,
 ) -> Tried
     requires book { IsBookOf table.now book.old }
     ensures book { IsBookOf table.now book.new }
     ensures done { (d : DeskView D.Setup D D.steps) (n : declared.Counts) (next : NextAnswer) (more : Plan) →
-        Follows table.now (reserve (key_at (record { local = local; port = port }) from.now request.now.sender_port) extra.now config.now reserved_wait
-        (tried (key_at (record { local = local; port = port }) from.now request.now.sender_port) port request.now next more)) (after_tried result next more) d d book.old book.new n n }
+        Follows table.now (reserve (key_at (record { local = local; port = port }) wish.now.from.now wish.now.request.now.sender_port) wish.now.extra.now wish.now.config.now reserved_wait
+        (tried (key_at (record { local = local; port = port }) wish.now.from.now wish.now.request.now.sender_port) port wish.now.request.now next more)) (after_tried result next more) d d book.old book.new n n }
 {
-    let key = key_at(local, from, request.sender_port);
-    match book.reserve(table, &key, extra, config, RESERVED_WAIT) {
+    let key = key_at(local, wish.from, wish.request.sender_port);
+    match book.reserve(table, &key, wish.extra, wish.config, RESERVED_WAIT) {
         Ok(place) => {
             let own = OwnSession {
                 place,
                 key,
-                timeout: timeout_nanos(&request.timeout),
+                timeout: timeout_nanos(&wish.request.timeout),
             };
             Tried::Taken { own, port }
         }
@@ -236,11 +243,7 @@ fn try_one<D: Shown>(
 fn try_local<D: Shown>(
     table: &Table,
     book: &mut DeskBook,
-    config: &Config,
-    extra: &Extra,
-    from: &Address,
-    to: &Address,
-    request: &Request,
+    wish: &Wish<'_>,
     number: u16,
     local: &LocalAddr,
     wanted: bool,
@@ -248,26 +251,26 @@ fn try_local<D: Shown>(
     requires book { IsBookOf table.now book.old }
     ensures book { IsBookOf table.now book.new }
     ensures done { (d : DeskView D.Setup D D.steps) (n : declared.Counts) (next : NextAnswer) (rest : List Candidate) →
-        Follows table.now (try_all config.now extra.now from.now request.now next (chosen_one (is_candidate request.now.v6 to.now request.now.receiver_port wanted) number local.now ++ rest))
-        (after_tried result next (try_all config.now extra.now from.now request.now next rest)) d d book.old book.new n n }
+        Follows table.now (try_all wish.now.config.now wish.now.extra.now wish.now.from.now wish.now.request.now next (chosen_one (is_candidate wish.now.request.now.v6 wish.now.to.now wish.now.request.now.receiver_port wanted) number local.now ++ rest))
+        (after_tried result next (try_all wish.now.config.now wish.now.extra.now wish.now.from.now wish.now.request.now next rest)) d d book.old book.new n n }
 {
-    if !is_candidate(request.v6, to, request.receiver_port, wanted, local) {
+    if !is_candidate(
+        wish.request.v6,
+        wish.to,
+        wish.request.receiver_port,
+        wanted,
+        local,
+    ) {
         return Tried::TriesNext;
     }
-    try_one::<D>(
-        table, book, config, extra, from, request, number, local.port,
-    )
+    try_one::<D>(table, book, wish, number, local.port)
 }
 
 /// Tries the candidates with the wanted port, or those with another, in the order of the locals.
 fn try_locals<D: Shown>(
     table: &Table,
     book: &mut DeskBook,
-    config: &Config,
-    extra: &Extra,
-    from: &Address,
-    to: &Address,
-    request: &Request,
+    wish: &Wish<'_>,
     locals: &[LocalAddr],
     wanted: bool,
 ) -> Tried
@@ -275,13 +278,11 @@ fn try_locals<D: Shown>(
     requires few { length locals.now ≤ 16 }
     ensures book { IsBookOf table.now book.new }
     ensures done { (d : DeskView D.Setup D D.steps) (n : declared.Counts) (next : NextAnswer) (rest : List Candidate) →
-        Follows table.now (try_all config.now extra.now from.now request.now next (chosen (is_candidate request.now.v6 to.now request.now.receiver_port wanted) 0 locals.now ++ rest))
-        (after_tried result next (try_all config.now extra.now from.now request.now next rest)) d d book.old book.new n n }
+        Follows table.now (try_all wish.now.config.now wish.now.extra.now wish.now.from.now wish.now.request.now next (chosen (is_candidate wish.now.request.now.v6 wish.now.to.now wish.now.request.now.receiver_port wanted) 0 locals.now ++ rest))
+        (after_tried result next (try_all wish.now.config.now wish.now.extra.now wish.now.from.now wish.now.request.now next rest)) d d book.old book.new n n }
 {
     for (i, local) in locals.iter().enumerate() {
-        let tried = try_local::<D>(
-            table, book, config, extra, from, to, request, i as u16, local, wanted,
-        );
+        let tried = try_local::<D>(table, book, wish, i as u16, local, wanted);
         if !tries_next(&tried) {
             return tried;
         }
@@ -293,25 +294,21 @@ fn try_locals<D: Shown>(
 fn try_candidates<D: Shown>(
     table: &Table,
     book: &mut DeskBook,
-    config: &Config,
-    extra: &Extra,
-    from: &Address,
-    to: &Address,
-    request: &Request,
+    wish: &Wish<'_>,
     locals: &[LocalAddr],
 ) -> Tried
     requires book { IsBookOf table.now book.old }
     requires few { length locals.now ≤ 16 }
     ensures book { IsBookOf table.now book.new }
     ensures done { (d : DeskView D.Setup D D.steps) (n : declared.Counts) (next : NextAnswer) →
-        Follows table.now (try_all config.now extra.now from.now request.now next (candidates locals.now request.now.v6 to.now request.now.receiver_port))
+        Follows table.now (try_all wish.now.config.now wish.now.extra.now wish.now.from.now wish.now.request.now next (candidates locals.now wish.now.request.now.v6 wish.now.to.now wish.now.request.now.receiver_port))
         (after_tried result next (next (answers.Refused 5) [])) d d book.old book.new n n }
 {
-    let tried = try_locals::<D>(table, book, config, extra, from, to, request, locals, true);
+    let tried = try_locals::<D>(table, book, wish, locals, true);
     if !tries_next(&tried) {
         return tried;
     }
-    try_locals::<D>(table, book, config, extra, from, to, request, locals, false)
+    try_locals::<D>(table, book, wish, locals, false)
 }
 
 /// Reserves a session for a request.
@@ -344,7 +341,14 @@ pub(crate) fn reserve_session<D: Shown>(
         return DeskAnswer::Refused(NOT_SUPPORTED);
     }
     let extra = extra_of(side.machine.mode(), request);
-    match try_candidates::<D>(table, book, config, &extra, &from, &to, request, locals) {
+    let wish = Wish {
+        config,
+        extra: &extra,
+        from: &from,
+        to: &to,
+        request,
+    };
+    match try_candidates::<D>(table, book, &wish, locals) {
         Tried::Taken { own, port } => {
             side.sessions.push(own);
             DeskAnswer::Reserved {

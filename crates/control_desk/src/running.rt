@@ -1,45 +1,41 @@
 //! Events, one after the other.
 
-ghost use Rattle.std.specs.Prelude.{◌≡◌, ◌≤◌, ◌≢◌, true, false, take, length, IsTrue};
+ghost use Rattle.std.specs.Prelude.{◌≡◌, ◌≤◌, ◌≢◌, true, false, take, IsTrue};
 ghost use Rattle.net_io.specs.Desk.{octet_count};
 ghost use Rattle.session_desk.specs.Book.{IsBookOf};
 ghost use Rattle.control_desk.specs.State.{Setting, DeskState};
 ghost use Rattle.control_desk.specs.Connections.{state_of};
-ghost use Rattle.control_desk.specs.Plan.{Plan, Follows, stop};
+ghost use Rattle.control_desk.specs.Hands.{AreSame, Works};
+ghost use Rattle.control_desk.specs.Plan.{Plan, stop};
 ghost use Rattle.control_desk.specs.Run.{event_plan, behind_event, desk_plan, is_over};
 
-use crate::counts::{Counts, DeskEnd, Verdict};
+use crate::counts::{DeskEnd, Verdict};
+use crate::hands::{Caller, Hands, Heard};
 use crate::hearing::{hear_bytes, hear_closed, hear_opened};
 use crate::room::Places;
+use crate::setting::Setting;
 use crate::shown::Shown;
 use crate::ticking::hear_tick;
 use net_io::{DeskEvent, PIECE_ROOM, Timed};
-use refl_types::{Config, LocalAddr};
-use session_desk::DeskBook;
-use session_rule::Table;
 
 /// Calls for the next event that fail in a row and end the desk.
 const FAULT_LIMIT: u64 = 64;
 
 /// Hears an event.
 fn hear_event<D: Shown>(
-    locals: &[LocalAddr],
-    twamp: &Option<Config>,
+    setting: &Setting,
     places: &mut Places,
-    table: &Table,
-    book: &mut DeskBook,
-    desk: &mut D,
-    counts: &mut Counts,
+    hands: &mut Hands<D>,
     timed: &Timed,
     piece: &[u8; PIECE_ROOM],
 ) -> Verdict
-    requires book { IsBookOf table.now book.old }
-    requires few { length locals.now ≤ 16 }
+    requires book { IsBookOf hands.old.table.now hands.old.book.now }
     requires len { octet_count timed.now.event ≤ 4096 }
     requires going { timed.now.event ≢ DeskEvent.End }
-    ensures book { IsBookOf table.now book.new }
-    ensures done { (f : Setting) (more : DeskState → Plan) → f.locals ≡ locals.now → f.twamp ≡ twamp.now →
-        Follows table.now (event_plan f (state_of places.old) timed.now.moment (take (octet_count timed.now.event) piece.now) (behind_event more) timed.now.event) (behind_event more result (state_of places.new)) (D.shown desk.old) (D.shown desk.new) book.old book.new counts.old counts.new }
+    ensures same { AreSame hands.old hands.new }
+    ensures book { IsBookOf hands.new.table.now hands.new.book.now }
+    ensures done { (more : DeskState → Plan) →
+        Works D.shown (event_plan setting.now (state_of places.old) timed.now.moment (take (octet_count timed.now.event) piece.now) (behind_event more) timed.now.event) (behind_event more result (state_of places.new)) hands.old hands.new }
 {
     let now = timed.moment;
     match timed.event {
@@ -49,27 +45,31 @@ fn hear_event<D: Shown>(
             peer,
             local,
         } => {
-            hear_opened(twamp, places, desk, counts, conn, now, kind, &peer, &local);
+            let caller = Caller { kind, peer, local };
+            let heard = Heard { conn, now };
+            hear_opened(
+                setting.twamp(),
+                places,
+                hands.desk,
+                hands.counts,
+                heard,
+                &caller,
+            );
             Verdict::GoesOn
         }
         DeskEvent::Bytes { conn, len } => hear_bytes(
-            locals,
-            twamp,
+            setting,
             places,
-            table,
-            book,
-            desk,
-            counts,
-            conn,
-            now,
+            hands,
+            Heard { conn, now },
             &piece[..len],
         ),
         DeskEvent::Closed { conn } => {
-            hear_closed::<D>(places, table, book, counts, conn);
+            hear_closed::<D>(places, hands.table, hands.book, hands.counts, conn);
             Verdict::GoesOn
         }
         DeskEvent::Tick => {
-            hear_tick(places, table, book, desk, counts, now);
+            hear_tick(places, hands, now);
             Verdict::GoesOn
         }
         DeskEvent::End => unreachable!(),
@@ -93,28 +93,23 @@ fn is_over(left: u64, failed: u64) -> bool
 
 /// Hears event after event, until the desk ends.
 pub(crate) fn hear_all<D: Shown>(
-    locals: &[LocalAddr],
-    twamp: &Option<Config>,
+    setting: &Setting,
     places: &mut Places,
-    table: &Table,
-    book: &mut DeskBook,
-    desk: &mut D,
-    counts: &mut Counts,
+    hands: &mut Hands<D>,
     turns: u64,
 ) -> DeskEnd
-    requires book { IsBookOf table.now book.old }
-    requires few { length locals.now ≤ 16 }
-    requires open { IsTrue (D.shown desk.old).is_open }
-    ensures book { IsBookOf table.now book.new }
-    ensures done { (f : Setting) → f.locals ≡ locals.now → f.twamp ≡ twamp.now →
-        Follows table.now (desk_plan f turns 0 (state_of places.old)) (stop result) (D.shown desk.old) (D.shown desk.new) book.old book.new counts.old counts.new }
+    requires book { IsBookOf hands.old.table.now hands.old.book.now }
+    requires open { IsTrue (D.shown hands.old.desk.now).is_open }
+    ensures same { AreSame hands.old hands.new }
+    ensures book { IsBookOf hands.new.table.now hands.new.book.now }
+    ensures done { Works D.shown (desk_plan setting.now turns 0 (state_of places.old)) (stop result) hands.old hands.new }
 {
     let mut piece = [0; PIECE_ROOM];
     let mut left = turns;
     let mut failed = 0;
     while left > 0 {
         left -= 1;
-        match desk.take_event(counts, &mut piece) {
+        match hands.desk.take_event(hands.counts, &mut piece) {
             None => {
                 failed += 1;
                 if is_over(left, failed) {
@@ -127,9 +122,7 @@ pub(crate) fn hear_all<D: Shown>(
                 if is_end(&timed.event) {
                     return DeskEnd::End;
                 }
-                let verdict = hear_event(
-                    locals, twamp, places, table, book, desk, counts, &timed, &piece,
-                );
+                let verdict = hear_event(setting, places, hands, &timed, &piece);
                 if verdict.is_quits() {
                     return DeskEnd::Quit;
                 }

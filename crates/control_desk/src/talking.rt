@@ -7,16 +7,17 @@ ghost use Rattle.session_rule.specs.declared.seats.Table.{Table};
 ghost use Rattle.session_desk.specs.Book.{Book, IsBookOf};
 ghost use Rattle.control_desk.specs.declared.sides.ControlSide.{ControlSide as DeclaredSide};
 ghost use Rattle.control_desk.specs.State.{Setting};
+ghost use Rattle.control_desk.specs.Hands.{AreSame, Works};
 ghost use Rattle.control_desk.specs.Plan.{Plan, Follows};
 ghost use Rattle.control_desk.specs.Control.{send_some, reply_plan, message_plan, control_plan};
 
 use crate::counts::Counts;
+use crate::hands::{Hands, Heard};
 use crate::own_calls::{hang_up_control, start_sessions, stop_sessions};
 use crate::requests::reserve_session;
+use crate::setting::Setting;
 use crate::shown::Shown;
 use crate::sides::ControlSide;
-use refl_types::{Config, LocalAddr};
-use session_desk::DeskBook;
 use session_rule::Table;
 use twamp_control::{Ask, DeskAnswer, Message, Stage};
 
@@ -44,114 +45,97 @@ fn stage_behind(before: Stage, after: Stage) -> Stage
 /// Sends the reply to a message, if it has one, and hangs the connection up where the table says so, or where the reply
 /// couldn't be sent. Whether the connection goes on.
 fn reply<D: Shown>(
-    table: &Table,
-    book: &mut DeskBook,
-    desk: &mut D,
-    counts: &mut Counts,
-    conn: u32,
-    now: u64,
+    hands: &mut Hands<D>,
+    heard: Heard,
     side: &mut ControlSide,
     message: &Message,
     answer: &DeskAnswer,
 ) -> bool
-    requires book { IsBookOf table.now book.old }
+    requires book { IsBookOf hands.old.table.now hands.old.book.now }
     requires fits { IsTrue (fits (ask_of side.old.machine message.now) answer.now) }
-    ensures book { IsBookOf table.now book.new }
+    ensures same { AreSame hands.old hands.new }
+    ensures book { IsBookOf hands.new.table.now hands.new.book.now }
     ensures done { (more : DeclaredSide → Plan) (gone : Plan) →
-        Follows table.now (reply_plan conn now more gone message.now side.old answer.now) (if result then more side.new else gone) (D.shown desk.old) (D.shown desk.new) book.old book.new counts.old counts.new }
+        Works D.shown (reply_plan heard.conn heard.now more gone message.now side.old answer.now) (if result then more side.new else gone) hands.old hands.new }
 {
     let before = side.machine.stage();
     let mut out = [0; 64];
-    let stepped = side.machine.step(message, answer, now, &mut out);
+    let stepped = side.machine.step(message, answer, heard.now, &mut out);
     let stage = stage_behind(before, side.machine.stage());
-    if !send_some(desk, counts, conn, &out[..stepped.len]) {
-        hang_up_control(table, book, desk, counts, conn, stage, side.sessions.list());
+    if !send_some(hands.desk, hands.counts, heard.conn, &out[..stepped.len]) {
+        hang_up_control(hands, heard.conn, stage, side.sessions.list());
         return false;
     }
     if stepped.hang_up {
-        hang_up_control(table, book, desk, counts, conn, stage, side.sessions.list());
+        hang_up_control(hands, heard.conn, stage, side.sessions.list());
         return false;
     }
     true
 }
 
-/// Does what a message asks, and replies. Whether the connection goes on.
-fn hear_message<D: Shown>(
-    locals: &[LocalAddr],
-    twamp: &Option<Config>,
-    table: &Table,
-    book: &mut DeskBook,
-    desk: &mut D,
-    counts: &mut Counts,
-    conn: u32,
-    now: u64,
+/// Does what a message asks. What was done.
+fn do_asked<D: Shown>(
+    setting: &Setting,
+    hands: &mut Hands<D>,
+    heard: Heard,
     side: &mut ControlSide,
     message: &Message,
-) -> bool
-    requires book { IsBookOf table.now book.old }
-    requires few { length locals.now ≤ 16 }
-    ensures book { IsBookOf table.now book.new }
-    ensures done { (f : Setting) (more : DeclaredSide → Plan) (gone : Plan) → f.locals ≡ locals.now → f.twamp ≡ twamp.now →
-        Follows table.now (message_plan f conn now more gone side.old (message.now ∷ [])) (if result then more side.new else gone) (D.shown desk.old) (D.shown desk.new) book.old book.new counts.old counts.new }
+) -> DeskAnswer
+    requires book { IsBookOf hands.old.table.now hands.old.book.now }
+    ensures same { AreSame hands.old hands.new }
+    ensures book { IsBookOf hands.new.table.now hands.new.book.now }
+    ensures fits { IsTrue (fits (ask_of side.new.machine message.now) result) }
+    ensures done { (more : DeclaredSide → Plan) (gone : Plan) →
+        Works D.shown (message_plan setting.now heard.conn heard.now more gone side.old (message.now ∷ [])) (reply_plan heard.conn heard.now more gone message.now side.new result) hands.old hands.new }
 {
     match side.machine.ask(message) {
         Ask::Reserve(request) => {
-            let answer = reserve_session::<D>(locals, twamp, table, book, side, &request);
-            reply(table, book, desk, counts, conn, now, side, message, &answer)
+            reserve_session::<D>(
+                setting.locals(),
+                setting.twamp(),
+                hands.table,
+                hands.book,
+                side,
+                &request,
+            )
         }
         Ask::StartAll => {
-            start_sessions::<D>(table, book, now, side.sessions.list());
-            reply(
-                table,
-                book,
-                desk,
-                counts,
-                conn,
-                now,
-                side,
-                message,
-                &DeskAnswer::Done,
-            )
+            start_sessions::<D>(hands.table, hands.book, heard.now, side.sessions.list());
+            DeskAnswer::Done
         }
         Ask::StopAll { .. } => {
             let current = side.machine.stage();
-            stop_sessions::<D>(table, book, now, current, side.sessions.list());
+            stop_sessions::<D>(
+                hands.table,
+                hands.book,
+                heard.now,
+                current,
+                side.sessions.list(),
+            );
             side.sessions.clear();
-            reply(
-                table,
-                book,
-                desk,
-                counts,
-                conn,
-                now,
-                side,
-                message,
-                &DeskAnswer::Done,
-            )
+            DeskAnswer::Done
         }
-        Ask::Nothing => reply(
-            table,
-            book,
-            desk,
-            counts,
-            conn,
-            now,
-            side,
-            message,
-            &DeskAnswer::Done,
-        ),
-        Ask::HangUp => reply(
-            table,
-            book,
-            desk,
-            counts,
-            conn,
-            now,
-            side,
-            message,
-            &DeskAnswer::Done,
-        ),
+        Ask::Nothing => DeskAnswer::Done,
+        Ask::HangUp => DeskAnswer::Done,
     }
+}
+
+/// Does what a message asks, and replies. Whether the connection goes on.
+fn hear_message<D: Shown>(
+    setting: &Setting,
+    hands: &mut Hands<D>,
+    heard: Heard,
+    side: &mut ControlSide,
+    message: &Message,
+) -> bool
+    requires book { IsBookOf hands.old.table.now hands.old.book.now }
+    ensures same { AreSame hands.old hands.new }
+    ensures book { IsBookOf hands.new.table.now hands.new.book.now }
+    ensures done { (more : DeclaredSide → Plan) (gone : Plan) →
+        Works D.shown (message_plan setting.now heard.conn heard.now more gone side.old (message.now ∷ [])) (if result then more side.new else gone) hands.old hands.new }
+{
+    let answer = do_asked(setting, hands, heard, side, message);
+    reply(hands, heard, side, message, &answer)
 }
 
 /// The octets from a place on.
@@ -164,34 +148,27 @@ fn rest_of(octets: &[u8], at: usize) -> &[u8]
 
 /// Takes octets of a control connection, until it is hung up. Whether it goes on.
 pub(crate) fn hear_control<D: Shown>(
-    locals: &[LocalAddr],
-    twamp: &Option<Config>,
-    table: &Table,
-    book: &mut DeskBook,
-    desk: &mut D,
-    counts: &mut Counts,
-    conn: u32,
-    now: u64,
+    setting: &Setting,
+    hands: &mut Hands<D>,
+    heard: Heard,
     side: &mut ControlSide,
     octets: &[u8],
 ) -> bool
-    requires book { IsBookOf table.now book.old }
-    requires few { length locals.now ≤ 16 }
-    ensures book { IsBookOf table.now book.new }
-    ensures done { (f : Setting) (more : DeclaredSide → Plan) (gone : Plan) → f.locals ≡ locals.now → f.twamp ≡ twamp.now →
-        Follows table.now (control_plan f conn now more gone side.old octets.now) (if result then more side.new else gone) (D.shown desk.old) (D.shown desk.new) book.old book.new counts.old counts.new }
+    requires book { IsBookOf hands.old.table.now hands.old.book.now }
+    ensures same { AreSame hands.old hands.new }
+    ensures book { IsBookOf hands.new.table.now hands.new.book.now }
+    ensures done { (more : DeclaredSide → Plan) (gone : Plan) →
+        Works D.shown (control_plan setting.now heard.conn heard.now more gone side.old octets.now) (if result then more side.new else gone) hands.old hands.new }
 {
     let mut at = 0;
     while at < octets.len() {
-        side.heard = now;
+        side.heard = heard.now;
         let (taken, maybe) = side.machine.feed(rest_of(octets, at));
         at += taken;
         let Some(message) = maybe else {
             return true;
         };
-        if !hear_message(
-            locals, twamp, table, book, desk, counts, conn, now, side, &message,
-        ) {
+        if !hear_message(setting, hands, heard, side, &message) {
             return false;
         }
     }

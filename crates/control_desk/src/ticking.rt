@@ -5,16 +5,15 @@ ghost use Rattle.session_desk.specs.Book.{IsBookOf};
 ghost use Rattle.control_desk.specs.declared.sides.OpenConnection.{OpenConnection as DeclaredConnection};
 ghost use Rattle.control_desk.specs.State.{DeskState, at_connections};
 ghost use Rattle.control_desk.specs.Connections.{state_of};
-ghost use Rattle.control_desk.specs.Plan.{Plan, Follows};
+ghost use Rattle.control_desk.specs.Hands.{AreSame, Works};
+ghost use Rattle.control_desk.specs.Plan.{Plan};
 ghost use Rattle.control_desk.specs.Run.{is_started, is_idle, is_idle_side, hang_up_side, idle_plan, ticked_plan};
 
-use crate::counts::Counts;
+use crate::hands::Hands;
 use crate::own_calls::hang_up_control;
 use crate::room::Places;
 use crate::shown::Shown;
 use crate::sides::{ControlSide, OpenConnection, Side};
-use session_desk::DeskBook;
-use session_rule::Table;
 use twamp_control::Stage;
 
 /// For how long a control connection may give no octet, in nanoseconds.
@@ -46,25 +45,17 @@ fn is_idle_side(now: u64, side: &Side) -> bool
 }
 
 /// Hangs a connection up, and ends its sessions.
-fn hang_up_side<D: Shown>(
-    table: &Table,
-    book: &mut DeskBook,
-    desk: &mut D,
-    counts: &mut Counts,
-    gone: &OpenConnection,
-)
-    requires book { IsBookOf table.now book.old }
-    ensures book { IsBookOf table.now book.new }
+fn hang_up_side<D: Shown>(hands: &mut Hands<D>, gone: &OpenConnection)
+    requires book { IsBookOf hands.old.table.now hands.old.book.now }
+    ensures same { AreSame hands.old hands.new }
+    ensures book { IsBookOf hands.new.table.now hands.new.book.now }
     ensures done { (next : Plan) →
-        Follows table.now (hang_up_side gone.now.number gone.now.side next) next (D.shown desk.old) (D.shown desk.new) book.old book.new counts.old counts.new }
+        Works D.shown (hang_up_side gone.now.number gone.now.side next) next hands.old hands.new }
 {
     match &gone.side {
-        Side::Operator(_) => desk.drop_line(gone.number),
+        Side::Operator(_) => hands.desk.drop_line(gone.number),
         Side::Control(talk) => hang_up_control(
-            table,
-            book,
-            desk,
-            counts,
+            hands,
             gone.number,
             talk.machine.stage(),
             talk.sessions.list(),
@@ -73,19 +64,13 @@ fn hang_up_side<D: Shown>(
 }
 
 /// Hangs up each control connection that has given no octet for too long.
-fn hang_up_idle<D: Shown>(
-    places: &mut Places,
-    table: &Table,
-    book: &mut DeskBook,
-    desk: &mut D,
-    counts: &mut Counts,
-    now: u64,
-)
-    requires book { IsBookOf table.now book.old }
-    ensures book { IsBookOf table.now book.new }
+fn hang_up_idle<D: Shown>(places: &mut Places, hands: &mut Hands<D>, now: u64)
+    requires book { IsBookOf hands.old.table.now hands.old.book.now }
+    ensures same { AreSame hands.old hands.new }
+    ensures book { IsBookOf hands.new.table.now hands.new.book.now }
     ensures state { state_of places.new ≡ at_connections (state_of places.old) places.new.connections.items }
     ensures done { (next : List DeclaredConnection → Plan) →
-        Follows table.now (idle_plan now next [] places.old.connections.items) (next places.new.connections.items) (D.shown desk.old) (D.shown desk.new) book.old book.new counts.old counts.new }
+        Works D.shown (idle_plan now next [] places.old.connections.items) (next places.new.connections.items) hands.old hands.new }
 {
     let mut at = 0;
     while at < places.connections.len() {
@@ -94,25 +79,19 @@ fn hang_up_idle<D: Shown>(
             continue;
         }
         let gone = places.connections.remove(at);
-        hang_up_side(table, book, desk, counts, &gone);
+        hang_up_side(hands, &gone);
     }
 }
 
 /// Time has passed: idle connections are hung up, and then the book's sessions are passed.
-pub(crate) fn hear_tick<D: Shown>(
-    places: &mut Places,
-    table: &Table,
-    book: &mut DeskBook,
-    desk: &mut D,
-    counts: &mut Counts,
-    now: u64,
-)
-    requires book { IsBookOf table.now book.old }
-    ensures book { IsBookOf table.now book.new }
+pub(crate) fn hear_tick<D: Shown>(places: &mut Places, hands: &mut Hands<D>, now: u64)
+    requires book { IsBookOf hands.old.table.now hands.old.book.now }
+    ensures same { AreSame hands.old hands.new }
+    ensures book { IsBookOf hands.new.table.now hands.new.book.now }
     ensures done { (next : DeskState → Plan) →
-        Follows table.now (ticked_plan now next (state_of places.old)) (next (state_of places.new)) (D.shown desk.old) (D.shown desk.new) book.old book.new counts.old counts.new }
+        Works D.shown (ticked_plan now next (state_of places.old)) (next (state_of places.new)) hands.old hands.new }
 {
-    hang_up_idle(places, table, book, desk, counts, now);
-    let ticked = book.tick(table, now);
-    counts.add_ticked(&ticked);
+    hang_up_idle(places, hands, now);
+    let ticked = hands.book.tick(hands.table, now);
+    hands.counts.add_ticked(&ticked);
 }

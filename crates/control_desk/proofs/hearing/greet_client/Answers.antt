@@ -11,7 +11,7 @@ pub returns-then-not-tell : goal.returns-then-not-tell
 returns-then-not-tell g c = λ t next b.
     let a = c.args in
     let s = state_of a.places.now in
-    let kept = next (with_connection s a.conn (Control (control_side s a.now a.peer.now a.local.now))) in
-    let gone = hang_up a.conn (next s) in
-    follows_as (ap (λ (o : List ℕ). send a.conn o kept gone) (sym c.write_greeting.ensures))
+    let kept = next (with_connection s a.heard.conn (Control (control_side s a.heard.now a.caller.now.peer a.caller.now.local))) in
+    let gone = hang_up a.heard.conn (next s) in
+    follows_as (ap (λ (o : List ℕ). send a.heard.conn o kept gone) (sym c.write_greeting.ensures))
     (follows_then (c.if-not-tell.ensures t kept gone b) (c.drop_line.ensures t (next s) b _))

@@ -14,27 +14,27 @@ pub returns-then-has : goal.returns-then-has
 returns-then-has g c = λ f t next b twamp.
     let a = c.args in
     let s = state_of a.places.now in
-    let known = some_side (side_in s.connections a.conn) (sym c.has.ensures ∙ c.if-has.true) in
-    follows_as (ap (opened_plan f s a.conn a.now a.kind a.peer.now a.local.now next) known.1) (follows_none _ _ _ _)
+    let known = some_side (side_in s.connections a.heard.conn) (sym c.has.ensures ∙ c.if-has.true) in
+    follows_as (ap (opened_plan f s a.heard.conn a.heard.now a.caller.now.kind a.caller.now.peer a.caller.now.local next) known.1) (follows_none _ _ _ _)
 
 pub returns-then-refuses : goal.returns-then-refuses
 returns-then-refuses g c = λ f t next b twamp.
     let a = c.args in
     let s = state_of a.places.now in
-    let known = no_side (side_in s.connections a.conn) (sym c.has.ensures ∙ c.if-has.false) in
-    follows_as (ap (opened_plan f s a.conn a.now a.kind a.peer.now a.local.now next) known
-    ∙ if_true _ (hang_up a.conn (next s)) (greet s a.conn a.now a.peer.now a.local.now next a.kind) (sym (c.refuses.ensures.value f twamp) ∙ c.if-refuses.true))
+    let known = no_side (side_in s.connections a.heard.conn) (sym c.has.ensures ∙ c.if-has.false) in
+    follows_as (ap (opened_plan f s a.heard.conn a.heard.now a.caller.now.kind a.caller.now.peer a.caller.now.local next) known
+    ∙ if_true _ (hang_up a.heard.conn (next s)) (greet s a.heard.conn a.heard.now a.caller.now.peer a.caller.now.local next a.caller.now.kind) (sym (c.refuses.ensures.value f twamp) ∙ c.if-refuses.true))
     (c.drop_line.ensures t (next s) b _)
 
 pub returns-in-Operator : goal.returns-in-Operator
 returns-in-Operator g c = λ f t next b twamp.
     let a = c.args in
     let s = state_of a.places.now in
-    let known = no_side (side_in s.connections a.conn) (sym c.has.ensures ∙ c.if-has.false) in
-    follows_as (ap (opened_plan f s a.conn a.now a.kind a.peer.now a.local.now next) known
-    ∙ if_false _ (hang_up a.conn (next s)) (greet s a.conn a.now a.peer.now a.local.now next a.kind) (sym (c.refuses.ensures.value f twamp) ∙ c.if-refuses.false)
-    ∙ ap (greet s a.conn a.now a.peer.now a.local.now next) c.in-Operator.is
-    ∙ ap (λ (held : _). next (with_connection s a.conn (Operator held))) (sym c.new.ensures)
+    let known = no_side (side_in s.connections a.heard.conn) (sym c.has.ensures ∙ c.if-has.false) in
+    follows_as (ap (opened_plan f s a.heard.conn a.heard.now a.caller.now.kind a.caller.now.peer a.caller.now.local next) known
+    ∙ if_false _ (hang_up a.heard.conn (next s)) (greet s a.heard.conn a.heard.now a.caller.now.peer a.caller.now.local next a.caller.now.kind) (sym (c.refuses.ensures.value f twamp) ∙ c.if-refuses.false)
+    ∙ ap (greet s a.heard.conn a.heard.now a.caller.now.peer a.caller.now.local next) c.in-Operator.is
+    ∙ ap (λ (held : _). next (with_connection s a.heard.conn (Operator held))) (sym c.new.ensures)
     ∙ ap next (sym c.add.ensures))
     (follows_none _ _ _ _)
 
@@ -42,8 +42,8 @@ pub returns-in-Control : goal.returns-in-Control
 returns-in-Control g c = λ f t next b twamp.
     let a = c.args in
     let s = state_of a.places.now in
-    let known = no_side (side_in s.connections a.conn) (sym c.has.ensures ∙ c.if-has.false) in
-    follows_as (ap (opened_plan f s a.conn a.now a.kind a.peer.now a.local.now next) known
-    ∙ if_false _ (hang_up a.conn (next s)) (greet s a.conn a.now a.peer.now a.local.now next a.kind) (sym (c.refuses.ensures.value f twamp) ∙ c.if-refuses.false)
-    ∙ ap (greet s a.conn a.now a.peer.now a.local.now next) c.in-Control.is)
+    let known = no_side (side_in s.connections a.heard.conn) (sym c.has.ensures ∙ c.if-has.false) in
+    follows_as (ap (opened_plan f s a.heard.conn a.heard.now a.caller.now.kind a.caller.now.peer a.caller.now.local next) known
+    ∙ if_false _ (hang_up a.heard.conn (next s)) (greet s a.heard.conn a.heard.now a.caller.now.peer a.caller.now.local next a.caller.now.kind) (sym (c.refuses.ensures.value f twamp) ∙ c.if-refuses.false)
+    ∙ ap (greet s a.heard.conn a.heard.now a.caller.now.peer a.caller.now.local next) c.in-Control.is)
     (c.greet_client.ensures t next b)

@@ -11,7 +11,7 @@ returns-in-Ok-clause-done g c = λ s next.
     let plan = number_plan c.args.conn s next in
     follows_then
     (follows_called (close k plan) (plan (Ok c.in-Ok.number)) (closes k (Ok c.in-Ok.number)) _ (refl, refl) c.in-Ok.ensures.made c.add_closed.ensures)
-    (c.answer.ensures c.args.table.now s next _)
+    (c.answer.ensures c.args.hands.now.table.now s next _)
 
 pub returns-in-Err-clause-done : goal.returns-in-Err-clause-done
 returns-in-Err-clause-done g c = λ s next.
@@ -19,4 +19,4 @@ returns-in-Err-clause-done g c = λ s next.
     let plan = number_plan c.args.conn s next in
     follows_then
     (follows_called (close k plan) (plan (Err c.in-Err.field-0)) (closes k (Err c.in-Err.field-0)) _ (refl, refl) c.in-Err.ensures.made refl)
-    (c.answer-in-Err.ensures c.args.table.now s next _)
+    (c.answer-in-Err.ensures c.args.hands.now.table.now s next _)

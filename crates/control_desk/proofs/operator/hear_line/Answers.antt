@@ -10,11 +10,11 @@ pub do_line-requires-clause-sound : goal.do_line-requires-clause-sound
 do_line-requires-clause-sound g c = line_sound _ c.in-Ok.line c.in-Ok.ensures.is_line
 
 pub returns-in-Err-clause-done : goal.returns-in-Err-clause-done
-returns-in-Err-clause-done g c = λ f s next locals.
+returns-in-Err-clause-done g c = λ s next. let f = c.args.setting.now in
     let u = at_names s c.args.names.now in
-    follows_as (ap (read_plan f c.args.conn c.args.now u next) (sym c.read_line.ensures.value ∙ ap result_ok c.in-Err.is)) (c.answer.ensures c.args.table.now u next _)
+    follows_as (ap (read_plan f c.args.heard.conn c.args.heard.now u next) (sym c.read_line.ensures.value ∙ ap result_ok c.in-Err.is)) (c.answer.ensures c.args.hands.now.table.now u next _)
 
 pub returns-in-Ok-clause-done : goal.returns-in-Ok-clause-done
-returns-in-Ok-clause-done g c = λ f s next locals.
+returns-in-Ok-clause-done g c = λ s next. let f = c.args.setting.now in
     let u = at_names s c.args.names.now in
-    follows_as (ap (read_plan f c.args.conn c.args.now u next) (sym c.read_line.ensures.value ∙ ap result_ok c.in-Ok.is)) (c.do_line.ensures.done f s next locals)
+    follows_as (ap (read_plan f c.args.heard.conn c.args.heard.now u next) (sym c.read_line.ensures.value ∙ ap result_ok c.in-Ok.is)) (c.do_line.ensures.done s next)

@@ -1,5 +1,6 @@
 use Rattle.std.proofs.Common.{◌≡◌, ℕ, ◌-◌, refl, ap, arith}
 use Rattle.session_desk.specs.Makes.{tells_length}
+use Rattle.control_desk.proofs.HandsFacts.{are_same, are_same_then, at_table}
 use Rattle.control_desk.specs.Plan.{Plan, live_len}
 use Rattle.control_desk.specs.Operator.{list_from}
 use Rattle.control_desk.proofs.Following.{follows_as, follows_to, follows_called, follows_then}
@@ -8,6 +9,7 @@ use Rattle.control_desk.proofs.operator.list_line.Goals as goal
 
 pub loop-index-init : goal.loop-index-init
 loop-index-init g c = record {
+  same = are_same _;
   book = c.requires.book;
   within = omega arith;
   done = λ s next.
@@ -15,27 +17,28 @@ loop-index-init g c = record {
       let all = c.live_len-all.result in
       let whole : all ≡ all - 0 = omega arith in
       follows_to (ap (list_from c.args.conn s next all 0) whole)
-      (follows_called (live_len plan) (plan all) (tells_length all) (g.D.Shown.shown c.args.desk.now) {n = c.args.counts.now} refl (c.live_len-all.ensures c.args.table.now) refl);
+      (follows_called (live_len plan) (plan all) (tells_length all) (g.D.Shown.shown c.args.hands.now.desk.now) {n = c.args.hands.now.counts.now} refl (c.live_len-all.ensures c.args.hands.now.table.now) refl);
 }
 
 pub returns-then-not-list_one-clause-done : goal.returns-then-not-list_one-clause-done
 returns-then-not-list_one-clause-done g c = λ s next.
     follows_then (c.loop-index.invariant.done s next)
     (follows_as (list_step c.args.conn s next c.live_len-all.result c.loop-index.index (omega (arith, c.loop-index-test.true)))
-    (c.if-not-list_one.ensures.done s next _))
+    (at_table c.loop-index.invariant.same.table (c.if-not-list_one.ensures.done s next _)))
 
 pub loop-index-preserved : goal.loop-index-preserved
 loop-index-preserved g c = record {
+  same = are_same_then c.loop-index.invariant.same c.list_one.ensures.same;
   book = c.list_one.ensures.book;
   within = omega (arith, c.loop-index-test.true);
   done = λ s next.
       follows_then (c.loop-index.invariant.done s next)
       (follows_as (list_step c.args.conn s next c.live_len-all.result c.loop-index.index (omega (arith, c.loop-index-test.true)))
-      (c.if-not-list_one.ensures.done s next _));
+      (at_table c.loop-index.invariant.same.table (c.if-not-list_one.ensures.done s next _)));
 }
 
 pub returns-clause-done : goal.returns-clause-done
 returns-clause-done g c = λ s next.
     follows_then (c.loop-index.invariant.done s next)
     (follows_as (list_end c.args.conn s next c.live_len-all.result c.loop-index.index (omega (arith, c.loop-index-test.false)))
-    (c.answer.ensures c.args.table.now s next _))
+    (c.answer.ensures c.args.hands.now.table.now s next _))

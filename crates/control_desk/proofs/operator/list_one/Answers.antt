@@ -10,7 +10,7 @@ use Rattle.control_desk.proofs.operator.list_one.Goals as goal
 pub returns-in_default-clause-done : goal.returns-in_default-clause-done
 returns-in_default-clause-done g c = λ s next more.
     let plan = list_key c.args.conn s next more in
-    follows_called (live_at c.args.index plan) more (tells_key c.args.index None) _ (refl, refl) (c.in_default.ensures c.args.table.now) refl
+    follows_called (live_at c.args.index plan) more (tells_key c.args.index None) _ (refl, refl) (c.in_default.ensures c.args.hands.now.table.now) refl
 
 pub returns-in_default-count-clause-done : goal.returns-in_default-count-clause-done
 returns-in_default-count-clause-done g c = λ s next more.
@@ -18,7 +18,7 @@ returns-in_default-count-clause-done g c = λ s next more.
     let plan = list_key c.args.conn s next more in
     let counted = listed_plan c.args.conn s next k more in
     let e = Err c.in_default-count.field-0 in
-    follows_then (follows_called (live_at c.args.index plan) (count k counted) (tells_key c.args.index (Some k)) _ (refl, refl) (c.in-Some.ensures c.args.table.now) refl)
+    follows_then (follows_called (live_at c.args.index plan) (count k counted) (tells_key c.args.index (Some k)) _ (refl, refl) (c.in-Some.ensures c.args.hands.now.table.now) refl)
     (follows_called (count k counted) more (counts k e) _ (refl, refl) c.in_default-count.ensures.made refl)
 
 pub returns-then-send_line-clause-done : goal.returns-then-send_line-clause-done
@@ -29,9 +29,9 @@ returns-then-send_line-clause-done g c = λ s next more.
     let counted = listed_plan n s next k more in
     let m = c.in-Ok.number in
     let failed = hang_up n (next Over (without s n)) in
-    follows_then (follows_called (live_at c.args.index plan) (count k counted) (tells_key c.args.index (Some k)) _ (refl, refl) (c.in-Some.ensures c.args.table.now) refl)
+    follows_then (follows_called (live_at c.args.index plan) (count k counted) (tells_key c.args.index (Some k)) _ (refl, refl) (c.in-Some.ensures c.args.hands.now.table.now) refl)
     (follows_then (follows_called (count k counted) (counted (Ok m)) (counts k (Ok m)) _ (refl, refl) c.in-Ok.ensures.made refl)
-    (c.if-send_line.ensures c.args.table.now more failed _))
+    (c.if-send_line.ensures c.args.hands.now.table.now more failed _))
 
 pub returns-clause-done : goal.returns-clause-done
 returns-clause-done g c = λ s next more.
@@ -42,7 +42,7 @@ returns-clause-done g c = λ s next more.
     let m = c.in-Ok.number in
     let gone = next Over (without s n) in
     let failed = hang_up n gone in
-    follows_then (follows_called (live_at c.args.index plan) (count k counted) (tells_key c.args.index (Some k)) _ (refl, refl) (c.in-Some.ensures c.args.table.now) refl)
+    follows_then (follows_called (live_at c.args.index plan) (count k counted) (tells_key c.args.index (Some k)) _ (refl, refl) (c.in-Some.ensures c.args.hands.now.table.now) refl)
     (follows_then (follows_called (count k counted) (counted (Ok m)) (counts k (Ok m)) _ (refl, refl) c.in-Ok.ensures.made refl)
-    (follows_then (c.if-send_line.ensures c.args.table.now more failed _)
-    (c.drop_line.ensures c.args.table.now gone _ _)))
+    (follows_then (c.if-send_line.ensures c.args.hands.now.table.now more failed _)
+    (c.drop_line.ensures c.args.hands.now.table.now gone _ _)))

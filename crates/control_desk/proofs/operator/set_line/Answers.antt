@@ -10,7 +10,7 @@ use Rattle.control_desk.proofs.operator.set_line.Goals as goal
 pub returns-in_default-clause-done : goal.returns-in_default-clause-done
 returns-in_default-clause-done g c = λ s next.
     let u = at_names s c.args.names.now in
-    follows_as (ap (set_under c.args.conn u c.args.key.now next) (sym c.find.ensures ∙ c.in_default.is)) (c.answer.ensures c.args.table.now u next _)
+    follows_as (ap (set_under c.args.conn u c.args.key.now next) (sym c.find.ensures ∙ c.in_default.is)) (c.answer.ensures c.args.hands.now.table.now u next _)
 
 pub returns-in-Ok-clause-done : goal.returns-in-Ok-clause-done
 returns-in-Ok-clause-done g c = λ s next.
@@ -20,7 +20,7 @@ returns-in-Ok-clause-done g c = λ s next.
     let a = Ok c.in-Ok.field-0 in
     follows_as (ap (set_under c.args.conn u k next) (sym c.find.ensures ∙ c.in-Some.is)) (follows_then
     (follows_called (set k c.in-Some.config plan) (plan a) (sets k c.in-Some.config a) _ (refl, refl, refl) c.in-Ok.ensures.made refl)
-    (c.answer-in-Ok.ensures c.args.table.now u next _))
+    (c.answer-in-Ok.ensures c.args.hands.now.table.now u next _))
 
 pub returns-in-Err-clause-done : goal.returns-in-Err-clause-done
 returns-in-Err-clause-done g c = λ s next.
@@ -30,4 +30,4 @@ returns-in-Err-clause-done g c = λ s next.
     let a = Err c.in-Err.fault in
     follows_as (ap (set_under c.args.conn u k next) (sym c.find.ensures ∙ c.in-Some.is)) (follows_then
     (follows_called (set k c.in-Some.config plan) (plan a) (sets k c.in-Some.config a) _ (refl, refl, refl) c.in-Err.ensures.made refl)
-    (follows_as (ap (λ (r : Refusal). refuse c.args.conn r u next) (sym c.set_refusal-refusal.ensures)) (c.answer-in-Err.ensures c.args.table.now u next _)))
+    (follows_as (ap (λ (r : Refusal). refuse c.args.conn r u next) (sym c.set_refusal-refusal.ensures)) (c.answer-in-Err.ensures c.args.hands.now.table.now u next _)))

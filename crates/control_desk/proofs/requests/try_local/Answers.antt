@@ -9,13 +9,13 @@ pub returns-then-not-is_candidate-clause-done : goal.returns-then-not-is_candida
 returns-then-not-is_candidate-clause-done g c = λ d n next rest.
     let a = c.args in
     let here : Candidate = record { local = a.number; port = a.local.now.port } in
-    follows_as (ap (λ (cs : List Candidate). try_all a.config.now a.extra.now a.from.now a.request.now next (cs ++ rest)) (if_false _ (here ∷ []) [] (sym c.is_candidate.ensures ∙ c.if-not-is_candidate.true)))
+    follows_as (ap (λ (cs : List Candidate). try_all a.wish.now.config.now a.wish.now.extra.now a.wish.now.from.now a.wish.now.request.now next (cs ++ rest)) (if_false _ (here ∷ []) [] (sym c.is_candidate.ensures ∙ c.if-not-is_candidate.true)))
     (follows_none _ _ _ _)
 
 pub returns-clause-done : goal.returns-clause-done
 returns-clause-done g c = λ d n next rest.
     let a = c.args in
     let here : Candidate = record { local = a.number; port = a.local.now.port } in
-    let plan = try_all a.config.now a.extra.now a.from.now a.request.now next in
+    let plan = try_all a.wish.now.config.now a.wish.now.extra.now a.wish.now.from.now a.wish.now.request.now next in
     follows_as (ap (λ (cs : List Candidate). plan (cs ++ rest)) (if_true _ (here ∷ []) [] (sym c.is_candidate.ensures ∙ c.if-not-is_candidate.false)) ∙ try_more _ _ _ _ _ here rest)
     (c.try_one.ensures.done d n next (plan rest))

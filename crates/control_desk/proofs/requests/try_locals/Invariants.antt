@@ -9,6 +9,6 @@ abbrev pub invariant-loop-i : goal.invariant-loop-i
 invariant-loop-i g l = record {
   book : IsBookOf l.table l.book;
   done : (d : DeskView g.row.D-Setup.Denot g.row.D.Denot g.D.Shown.steps) (n : Counts) (next : NextAnswer) (rest : List Candidate) →
-      Follows l.table (try_all l.config l.extra l.from l.request next (chosen (is_candidate l.request.v6 l.to l.request.receiver_port l.wanted) 0 l.locals ++ rest))
-      (try_all l.config l.extra l.from l.request next (chosen (is_candidate l.request.v6 l.to l.request.receiver_port l.wanted) l.i (drop l.i l.locals) ++ rest)) d d l.fn.book l.book n n;
+      Follows l.table (try_all l.wish.config.now l.wish.extra.now l.wish.from.now l.wish.request.now next (chosen (is_candidate l.wish.request.now.v6 l.wish.to.now l.wish.request.now.receiver_port l.wanted) 0 l.locals ++ rest))
+      (try_all l.wish.config.now l.wish.extra.now l.wish.from.now l.wish.request.now next (chosen (is_candidate l.wish.request.now.v6 l.wish.to.now l.wish.request.now.receiver_port l.wanted) l.i (drop l.i l.locals) ++ rest)) d d l.fn.book l.book n n;
 }

@@ -1,43 +1,10 @@
-use Rattle.std.proofs.Common.{List, [], sym, ap, ◌∙◌}
-use Rattle.twamp_control.specs.declared.types.Stage.{Stage}
-use Rattle.twamp_control.specs.declared.types.DeskAnswer.TheVariants.{Done}
-use Rattle.control_desk.specs.declared.own.OwnSession.{OwnSession}
-use Rattle.control_desk.specs.Plan.{Plan}
-use Rattle.control_desk.specs.declared.sides.ControlSide.{ControlSide}
-use Rattle.control_desk.specs.Control.{asked_plan, reply_plan, start_all, stop_all}
-use Rattle.control_desk.proofs.Following.{follows_as, follows_then}
+use Rattle.control_desk.proofs.Following.{follows_then}
+use Rattle.control_desk.proofs.HandsFacts.{are_same_then, at_table}
 use Rattle.control_desk.proofs.talking.hear_message.Goals as goal
 
-pub returns-in-Reserve-clause-done : goal.returns-in-Reserve-clause-done
-returns-in-Reserve-clause-done g c = λ f more gone locals twamp.
-    let a = c.args in
-    follows_as (ap (asked_plan f a.conn a.now more gone a.side.now a.message.now) (sym c.ask.ensures ∙ c.in-Reserve.is))
-    (follows_then (c.reserve_session-answer.ensures.done f _ _ (λ answer side. reply_plan a.conn a.now more gone a.message.now side answer) locals twamp) (c.reply.ensures.done more gone))
+pub returns-clause-same : goal.returns-clause-same
+returns-clause-same g c = are_same_then c.do_asked-answer.ensures.same c.reply.ensures.same
 
-pub returns-in-StartAll-clause-done : goal.returns-in-StartAll-clause-done
-returns-in-StartAll-clause-done g c = λ f more gone locals twamp.
-    let a = c.args in
-    let replied = reply_plan a.conn a.now more gone a.message.now a.side.now Done in
-    follows_as (ap (asked_plan f a.conn a.now more gone a.side.now a.message.now) (sym c.ask.ensures ∙ c.in-StartAll.is) ∙ ap (λ (os : List OwnSession). start_all a.now os replied) (sym c.list.ensures))
-    (follows_then (c.start_sessions.ensures.done _ _ replied) (c.reply-in-StartAll.ensures.done more gone))
-
-pub returns-in-Nothing-clause-done : goal.returns-in-Nothing-clause-done
-returns-in-Nothing-clause-done g c = λ f more gone locals twamp.
-    let a = c.args in
-    follows_as (ap (asked_plan f a.conn a.now more gone a.side.now a.message.now) (sym c.ask.ensures ∙ c.in-Nothing.is)) (c.reply-in-Nothing.ensures.done more gone)
-
-pub returns-in-HangUp-clause-done : goal.returns-in-HangUp-clause-done
-returns-in-HangUp-clause-done g c = λ f more gone locals twamp.
-    let a = c.args in
-    follows_as (ap (asked_plan f a.conn a.now more gone a.side.now a.message.now) (sym c.ask.ensures ∙ c.in-HangUp.is)) (c.reply-in-HangUp.ensures.done more gone)
-
-pub returns-in-StopAll-clause-done : goal.returns-in-StopAll-clause-done
-returns-in-StopAll-clause-done g c = λ f more gone locals twamp.
-    let a = c.args in
-    let side = a.side.now in
-    let plan : List OwnSession → Plan = λ os. (let left : ControlSide = record side { sessions = os } in reply_plan a.conn a.now more gone a.message.now left Done) in
-    follows_as (ap (asked_plan f a.conn a.now more gone side a.message.now) (sym c.ask.ensures ∙ c.in-StopAll.is)
-    ∙ ap (λ (s : Stage). stop_all s a.now side.sessions (plan [])) (sym c.stage-current.ensures)
-    ∙ ap (λ (os : List OwnSession). stop_all c.stage-current.result a.now os (plan [])) (sym c.list-in-StopAll.ensures))
-    (follows_then (c.stop_sessions.ensures.done _ _ (plan []))
-    (follows_as (ap plan (sym c.clear.ensures)) (c.reply-in-StopAll.ensures.done more gone)))
+pub returns-clause-done : goal.returns-clause-done
+returns-clause-done g c = λ more gone. let f = c.args.setting.now in
+    follows_then (c.do_asked-answer.ensures.done more gone) (at_table c.do_asked-answer.ensures.same.table (c.reply.ensures.done more gone))

@@ -1,6 +1,7 @@
 use Rattle.std.proofs.Common.{◌≡◌, ◌<◌, ◌≤◌, true, false, List, length, take, drop, get_or, sym, ap, ◌∙◌, arith}
 use Rattle.std.proofs.lemmas.List.{get_or_read, drop_all, take_all}
 use Rattle.std.specs.List.{remove}
+use Rattle.control_desk.proofs.HandsFacts.{are_same_then, at_table}
 use Rattle.control_desk.specs.declared.sides.OpenConnection.{OpenConnection}
 use Rattle.control_desk.specs.Run.{is_idle_side, hang_up_side, idle_plan}
 use Rattle.control_desk.proofs.Following.{follows_as, follows_to, follows_then}
@@ -18,6 +19,7 @@ loop-at-preserved-then-not-is_idle_side g c =
     let idle : is_idle_side c.args.now (get_or items l.at d).side ≡ false
     = ap (λ (x : OpenConnection). is_idle_side c.args.now x.side) (sym c.index.ensures) ∙ sym c.is_idle_side.ensures ∙ c.if-not-is_idle_side.true in
     record {
+      same = l.invariant.same;
       book = l.invariant.book;
       within = omega (arith, lt);
       state = l.invariant.state;
@@ -41,6 +43,7 @@ loop-at-preserved g c =
     let idle : is_idle_side c.args.now (get_or items l.at d).side ≡ true
     = ap (λ (x : OpenConnection). is_idle_side c.args.now x.side) (sym c.index.ensures) ∙ sym c.is_idle_side.ensures ∙ c.if-not-is_idle_side.false in
     record {
+      same = are_same_then l.invariant.same c.hang_up_side.ensures.same;
       book = c.hang_up_side.ensures.book;
       within = omega (arith, ap length c.remove-gone.ensures.items, length_remove items l.at lt, lt);
       state = ap (λ (s : DeskState). record s { connections = c.remove-gone.new.self.items }) l.invariant.state;
@@ -49,7 +52,7 @@ loop-at-preserved g c =
           follows_then (l.invariant.done next)
           (follows_as (idle_step c.args.now next items l.at d lt idle ∙ ap (λ (x : OpenConnection). hang_up_side x.number x.side left) (sym same))
           (follows_to (ap (λ (cs : List OpenConnection). idle_plan c.args.now next (take l.at cs) (drop l.at cs)) (sym c.remove-gone.ensures.items))
-          (c.hang_up_side.ensures.done left)));
+          (at_table l.invariant.same.table (c.hang_up_side.ensures.done left))));
     }
 
 pub returns-clause-done : goal.returns-clause-done
