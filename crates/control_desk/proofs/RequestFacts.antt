@@ -5,6 +5,7 @@ use Rattle.refl_types.specs.declared.types.Endpoint.{Endpoint}
 use Rattle.refl_types.specs.declared.types.Extra.{Extra}
 use Rattle.refl_types.specs.declared.config.ConfigParts.{ConfigParts}
 use Rattle.control_msgs.specs.declared.types.Request.{Request as SessionRequest}
+use Rattle.control_msgs.specs.declared.codes.Accept.TheVariants.{NotSupported, PermanentLimit, TemporaryLimit}
 use Rattle.twamp_control.specs.declared.types.DeskAnswer.TheVariants.{Refused}
 use Rattle.control_desk.specs.declared.requests.Tried.{Tried}
 use Rattle.control_desk.specs.declared.requests.Tried.TheVariants.{Taken, RefusedAll, TriesNext}
@@ -24,7 +25,7 @@ goes_on (Taken own port) next m h = absurd cc
 goes_on RefusedAll next m h = absurd cc
 goes_on TriesNext next m h = refl
 
-pub try_none : (config : ConfigParts) (x : Extra) (a : Address) (r : SessionRequest) (next : NextAnswer) → try_all config x a r next [] ≡ next (Refused 5) []
+pub try_none : (config : ConfigParts) (x : Extra) (a : Address) (r : SessionRequest) (next : NextAnswer) → try_all config x a r next [] ≡ next (Refused TemporaryLimit) []
 unfolding try_all
 try_none config x a r next = refl
 
@@ -45,10 +46,10 @@ pub served : (f : Setting) (side : ControlSide) (r : SessionRequest) (next : Nex
     → mode ≡ side.machine.mode → x ≡ extra_of mode r → is_served ls r from to ≡ true
     → request_plan f side r next ≡ try_all config x from r next (candidates ls r.v6 to r.receiver_port)
 served f side r next config ls from to x mode full twamp locals of of' em ex is =
-    if_false _ (next (Refused 4) []) (under_twamp f side r next f.twamp) full
+    if_false _ (next (Refused PermanentLimit) []) (under_twamp f side r next f.twamp) full
     ∙ ap (under_twamp f side r next) twamp
     ∙ ap (λ (a : Address). between f side r next config a (or_else r.receiver side.local)) (sym of)
     ∙ ap (between f side r next config from) (sym of')
-    ∙ if_true _ (try_all config (extra_of side.machine.mode r) from r next (candidates f.locals r.v6 to r.receiver_port)) (next (Refused 3) []) (ap (λ (l : List Endpoint). is_served l r from to) locals ∙ is)
+    ∙ if_true _ (try_all config (extra_of side.machine.mode r) from r next (candidates f.locals r.v6 to r.receiver_port)) (next (Refused NotSupported) []) (ap (λ (l : List Endpoint). is_served l r from to) locals ∙ is)
     ∙ ap (λ (l : List Endpoint). try_all config (extra_of side.machine.mode r) from r next (candidates l r.v6 to r.receiver_port)) locals
     ∙ ap (λ (y : Extra). try_all config y from r next (candidates ls r.v6 to r.receiver_port)) (ap (λ (m : ℕ). extra_of m r) (sym em) ∙ sym ex)

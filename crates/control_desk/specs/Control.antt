@@ -14,6 +14,7 @@ use Rattle.refl_types.specs.Same.{same_address}
 use Rattle.ntp_time.specs.Timeout.{timeout_span}
 use Rattle.control_msgs.specs.declared.types.Request.{Request as SessionRequest}
 use Rattle.control_msgs.specs.Modes.{is_symmetrical, reflects_octets}
+use Rattle.control_msgs.specs.declared.codes.Accept.TheVariants.{NotSupported, PermanentLimit, TemporaryLimit}
 use Rattle.twamp_control.specs.declared.types.Message.{Message}
 use Rattle.twamp_control.specs.declared.types.Stage.{Stage}
 use Rattle.twamp_control.specs.declared.types.Stage.TheVariants.{Started}
@@ -153,10 +154,10 @@ is_taken (Full live reserved retired held) = false
 -- that leaves the next candidate; any other refusal is that of the request
 abbrev pub tried : Key → ℕ → SessionRequest → NextAnswer → Plan → Result Place ReserveFault → Plan
 tried k port r next more (Ok place) = next (Reserved place port) (own_session k place r ∷ [])
-tried k port r next more (Err e) = if is_taken e then more else next (Refused 5) []
+tried k port r next more (Err e) = if is_taken e then more else next (Refused TemporaryLimit) []
 
 unfoldable pub try_all : ConfigParts → Extra → Address → SessionRequest → NextAnswer → List Candidate → Plan
-try_all config x a r next [] = next (Refused 5) []
+try_all config x a r next [] = next (Refused TemporaryLimit) []
 try_all config x a r next (c ∷ cs) =
     reserve (key_at c a r.sender_port) x config reserved_wait (tried (key_at c a r.sender_port) c.port r next (try_all config x a r next cs))
 
@@ -168,20 +169,20 @@ abbrev pub between : Setting → ControlSide → SessionRequest → NextAnswer �
 between f c r next config from to =
     if is_served f.locals r from to
     then try_all config (extra_of c.machine.mode r) from r next (candidates f.locals r.v6 to r.receiver_port)
-    else next (Refused 3) []
+    else next (Refused NotSupported) []
 
 -- without a configuration for negotiated sessions no control connection is kept
 abbrev pub under_twamp : Setting → ControlSide → SessionRequest → NextAnswer → Option ConfigParts → Plan
-under_twamp f c r next None = next (Refused 5) []
+under_twamp f c r next None = next (Refused TemporaryLimit) []
 under_twamp f c r next (Some config) = between f c r next config (or_else r.sender c.peer) (or_else r.receiver c.local)
 
 abbrev pub request_plan : Setting → ControlSide → SessionRequest → NextAnswer → Plan
-request_plan f c r next = if nat_le session_limit (length c.sessions) then next (Refused 4) [] else under_twamp f c r next f.twamp
+request_plan f c r next = if nat_le session_limit (length c.sessions) then next (Refused PermanentLimit) [] else under_twamp f c r next f.twamp
 
 -- what came of a candidate, or of several
 abbrev pub after_tried : Tried → NextAnswer → Plan → Plan
 after_tried (Taken own port) next more = next (Reserved own.place port) (own ∷ [])
-after_tried RefusedAll next more = next (Refused 5) []
+after_tried RefusedAll next more = next (Refused TemporaryLimit) []
 after_tried TriesNext next more = more
 
 abbrev pub tries_next : Tried → Bool

@@ -40,7 +40,7 @@ ghost use Rattle.control_desk.specs.Control.{
 use crate::own::OwnSession;
 use crate::shown::Shown;
 use crate::sides::ControlSide;
-use control_msgs::{Request, is_symmetrical, reflects_octets};
+use control_msgs::{Accept, Request, is_symmetrical, reflects_octets};
 use ntp_time::timeout_nanos;
 use refl_types::{Address, Config, Endpoint, Extra, Key, LocalAddr, Mode};
 use session_desk::{DeskBook, ReserveFault};
@@ -49,15 +49,6 @@ use twamp_control::DeskAnswer;
 
 /// How long a session waits for a datagram, in nanoseconds.
 const RESERVED_WAIT: u64 = 900 * 1_000_000_000;
-
-/// No local can take the session (RFC 4656, section 3.3).
-const NOT_SUPPORTED: u8 = 3;
-
-/// The connection has as many sessions as it may.
-const PERMANENT_LIMIT: u8 = 4;
-
-/// No candidate is free, or the book can take no session.
-const TEMPORARY_LIMIT: u8 = 5;
 
 /// What came of candidates.
 #[derive(Clone, Copy, Debug, PartialEq, Eq)]
@@ -302,7 +293,7 @@ fn try_candidates<D: Shown>(
     ensures book { IsBookOf table.now book.new }
     ensures done { (d : DeskView D.Setup D D.steps) (n : declared.Counts) (next : NextAnswer) →
         Follows table.now (try_all wish.now.config.now wish.now.extra.now wish.now.from.now wish.now.request.now next (candidates locals.now wish.now.request.now.v6 wish.now.to.now wish.now.request.now.receiver_port))
-        (after_tried result next (next (answers.Refused 5) [])) d d book.old book.new n n }
+        (after_tried result next (next (answers.Refused Accept.TemporaryLimit) [])) d d book.old book.new n n }
 {
     let tried = try_locals::<D>(table, book, wish, locals, true);
     if !tries_next(&tried) {
@@ -330,15 +321,15 @@ pub(crate) fn reserve_session<D: Shown>(
         Follows table.now (request_plan f side.old request.now (λ answer own. next answer (with_own side.old own))) (next result side.new) d d book.old book.new n n }
 {
     if side.sessions.is_full() {
-        return DeskAnswer::Refused(PERMANENT_LIMIT);
+        return DeskAnswer::Refused(Accept::PermanentLimit);
     }
     let Some(config) = twamp else {
-        return DeskAnswer::Refused(TEMPORARY_LIMIT);
+        return DeskAnswer::Refused(Accept::TemporaryLimit);
     };
     let from = or_else(&request.sender, &side.peer);
     let to = or_else(&request.receiver, &side.local);
     if !is_served(locals, request, &from, &to) {
-        return DeskAnswer::Refused(NOT_SUPPORTED);
+        return DeskAnswer::Refused(Accept::NotSupported);
     }
     let extra = extra_of(side.machine.mode(), request);
     let wish = Wish {
@@ -356,7 +347,7 @@ pub(crate) fn reserve_session<D: Shown>(
                 port,
             }
         }
-        Tried::RefusedAll => DeskAnswer::Refused(TEMPORARY_LIMIT),
-        Tried::TriesNext => DeskAnswer::Refused(TEMPORARY_LIMIT),
+        Tried::RefusedAll => DeskAnswer::Refused(Accept::TemporaryLimit),
+        Tried::TriesNext => DeskAnswer::Refused(Accept::TemporaryLimit),
     }
 }

@@ -13,6 +13,7 @@ use Rattle.net_io.specs.declared.desk.DeskEvent.{DeskEvent}
 use Rattle.net_io.specs.declared.desk.DeskEvent.TheVariants.{Opened, Bytes, Closed, Tick, End}
 use Rattle.net_io.specs.declared.desk.Timed.{Timed}
 use Rattle.net_io.specs.Desk.{DeskEntry, opened, open_failed, gave, next_failed, sent, send_failed, hung_up, finished}
+use Rattle.control_msgs.specs.declared.codes.Accept.TheVariants.{NotSupported, PermanentLimit, TemporaryLimit}
 use Rattle.control_msgs.specs.declared.types.Request.{Request as SessionRequest}
 use Rattle.twamp_control.specs.declared.types.Message.{Message}
 use Rattle.twamp_control.specs.declared.types.Stage.{Stage}
@@ -378,24 +379,24 @@ module _ (k : ℕ) where
 
   owes_tried : (j : Key) (port : ℕ) (r : SessionRequest) (next : NextAnswer) (more : Plan) (a : Result Place ReserveFault) → Answers next → Owes k more → Owes k (tried j port r next more a)
   owes_tried j port r next more (Ok place) h g = h (Reserved place port) (own_session j place r ∷ [])
-  owes_tried j port r next more (Err e) h g = owes_if (is_taken e) g (h (Refused 5) [])
+  owes_tried j port r next more (Err e) h g = owes_if (is_taken e) g (h (Refused TemporaryLimit) [])
 
   owes_try_all : (config : ConfigParts) (x : Extra) (a : Address) (r : SessionRequest) (next : NextAnswer) (cs : List Candidate) → Answers next → Owes k (try_all config x a r next cs)
   unfolding try_all
-  owes_try_all config x a r next [] h = h (Refused 5) []
+  owes_try_all config x a r next [] h = h (Refused TemporaryLimit) []
   owes_try_all config x a r next (c ∷ cs) h =
       owes_reserve (λ answer. owes_tried (key_at c a r.sender_port) c.port r next (try_all config x a r next cs) answer h (owes_try_all config x a r next cs h))
 
   owes_between : (f : Setting) (c : ControlSide) (r : SessionRequest) (next : NextAnswer) (config : ConfigParts) (from to : Address) → Answers next → Owes k (between f c r next config from to)
   owes_between f c r next config from to h =
-      owes_if (is_served f.locals r from to) (owes_try_all config (extra_of c.machine.mode r) from r next (candidates f.locals r.v6 to r.receiver_port) h) (h (Refused 3) [])
+      owes_if (is_served f.locals r from to) (owes_try_all config (extra_of c.machine.mode r) from r next (candidates f.locals r.v6 to r.receiver_port) h) (h (Refused NotSupported) [])
 
   owes_under_twamp : (f : Setting) (c : ControlSide) (r : SessionRequest) (next : NextAnswer) (o : Option ConfigParts) → Answers next → Owes k (under_twamp f c r next o)
-  owes_under_twamp f c r next None h = h (Refused 5) []
+  owes_under_twamp f c r next None h = h (Refused TemporaryLimit) []
   owes_under_twamp f c r next (Some config) h = owes_between f c r next config (or_else r.sender c.peer) (or_else r.receiver c.local) h
 
   owes_request : (f : Setting) (c : ControlSide) (r : SessionRequest) (next : NextAnswer) → Answers next → Owes k (request_plan f c r next)
-  owes_request f c r next h = owes_if (nat_le session_limit (length c.sessions)) (h (Refused 4) []) (owes_under_twamp f c r next f.twamp h)
+  owes_request f c r next h = owes_if (nat_le session_limit (length c.sessions)) (h (Refused PermanentLimit) []) (owes_under_twamp f c r next f.twamp h)
 
   module _ (n : ℕ) (more : ControlSide → Plan) (gone : Plan) (h : (c : ControlSide) → Owes k (more c)) (g : Owes k gone) where
     owes_behind_reply : (c : ControlSide) (row : Row) → Owes k (behind_reply n more gone c row)

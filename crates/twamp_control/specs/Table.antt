@@ -18,6 +18,9 @@ use Rattle.twamp_control.specs.declared.types.Stage.TheVariants.{SettingUp, Idle
 use Rattle.twamp_control.specs.declared.types.Ask.{Ask}
 use Rattle.twamp_control.specs.declared.types.Ask.TheVariants.{Reserve, StartAll, StopAll, Nothing, HangUp}
 use Rattle.twamp_control.specs.declared.types.DeskAnswer.{DeskAnswer}
+use Rattle.control_msgs.specs.declared.codes.Accept.{Accept}
+use Rattle.control_msgs.specs.declared.codes.Accept.TheVariants.{Accepted, Failure, InternalError, NotSupported, PermanentLimit, TemporaryLimit}
+use Rattle.control_msgs.specs.Codes.{accept_code}
 use Rattle.twamp_control.specs.declared.types.DeskAnswer.TheVariants.{Reserved, Refused, Done}
 use Rattle.twamp_control.specs.declared.types.Stepped.{Stepped}
 use Rattle.twamp_control.specs.Connection.{Connection, is_hung_up}
@@ -40,10 +43,19 @@ ask_in stage message = HangUp
 abbrev pub ask_of : Connection → Message → Ask
 ask_of c message = ask_in c.stage message
 
+-- a reservation is refused for want of support or of room
+abbrev pub is_refusal : Accept → Bool
+is_refusal Accepted = false
+is_refusal Failure = false
+is_refusal InternalError = false
+is_refusal NotSupported = true
+is_refusal PermanentLimit = true
+is_refusal TemporaryLimit = true
+
 -- a reservation is made or refused with 3, 4 or 5; anything else is done
 abbrev pub fits : Ask → DeskAnswer → Bool
 fits (Reserve r) (Reserved place port) = true
-fits (Reserve r) (Refused accept) = accept == 3 || accept == 4 || accept == 5
+fits (Reserve r) (Refused accept) = is_refusal accept
 fits (Reserve r) Done = false
 fits ask Done = true
 fits ask answer = false
@@ -91,7 +103,7 @@ request_row c octets (Reserved place port) now = record {
   reply = accept_session 0 port (session_id place now) (reflected c.mode octets);
   next = with_session c;
 }
-request_row c octets (Refused accept) now = refusal c accept octets
+request_row c octets (Refused accept) now = refusal c (accept_code accept) octets
 request_row c octets Done now = refusal c 3 octets
 
 abbrev pub start_row : Connection → Row

@@ -221,7 +221,7 @@ impl Machine {
                 self.sessions = self.sessions.saturating_add(1);
                 put_accept(*port, &session_id(place, now), &reflected, out)
             }
-            DeskAnswer::Refused(accept) => put_refusal(*accept, &reflected, out),
+            DeskAnswer::Refused(accept) => put_refusal(accept.code(), &reflected, out),
             DeskAnswer::Done => put_refusal(Accept::NotSupported.code(), &reflected, out),
         };
         Stepped {

@@ -1,6 +1,7 @@
 //! A whole talk for every cut of its octets, and each row of the table.
 
 use super::{Ask, DeskAnswer, Machine, Message, Stage, Stepped};
+use control_msgs::Accept;
 use refl_types::Place;
 use std::process::Abort;
 
@@ -178,7 +179,10 @@ fn each_message_has_its_reply_in_each_stage(rt: HostRuntime) {
         ((SettingUp, SetUp { mode: 99 }, Done), (48, true, HungUp)),
         ((SettingUp, SetUp { mode: 128 }, Done), (48, true, HungUp)),
         ((Idle, request(), RESERVED), (48, false, Idle)),
-        ((Idle, request(), Refused(5)), (48, false, Idle)),
+        (
+            (Idle, request(), Refused(Accept::TemporaryLimit)),
+            (48, false, Idle),
+        ),
         ((Idle, faulty_request(), Done), (48, false, Idle)),
         ((Idle, Start, Done), (32, false, Started)),
         ((Idle, Stop { number: 0 }, Done), (0, false, Idle)),
@@ -226,7 +230,12 @@ fn an_acceptance_names_the_session_and_gives_octets_back(rt: HostRuntime) {
     for (mode, answer, front, given) in [
         (97, RESERVED, session, [0xAB, 0xCD]),
         (65, RESERVED, session, [0, 0]),
-        (33, DeskAnswer::Refused(4), refused, [0xAB, 0xCD]),
+        (
+            33,
+            DeskAnswer::Refused(Accept::PermanentLimit),
+            refused,
+            [0xAB, 0xCD],
+        ),
     ] {
         let mut machine = connection(&rt, Stage::Idle, mode);
         let mut out = [0xEE; 64];

@@ -4,7 +4,7 @@ ghost use Rattle.std.specs.Prelude.{◌≡◌};
 ghost use Rattle.twamp_control.specs.Connection.{is_hung_up};
 ghost use Rattle.twamp_control.specs.Table.{fits};
 
-use control_msgs::{REQUEST_LEN, Request};
+use control_msgs::{Accept, REQUEST_LEN, Request};
 use refl_types::Place;
 
 /// A message of a client (RFC 5357, section 3).
@@ -42,8 +42,8 @@ pub enum Ask {
 pub enum DeskAnswer {
     /// A session was reserved at this place, for packets to this port.
     Reserved { place: Place, port: u16 },
-    /// No session was reserved, for a reason of RFC 4656, section 3.3: 3, 4 or 5.
-    Refused(u8),
+    /// No session was reserved, since something isn't supported, or there is no room for it.
+    Refused(Accept),
     /// What was asked was done, and wasn't a reservation.
     Done,
 }
@@ -80,13 +80,16 @@ impl Stage {
 }
 
 impl DeskAnswer {
-    /// Whether this answers what was asked: a reservation is made, or refused with 3, 4 or 5; all else is done.
+    /// Whether this answers what was asked: a reservation is made, or refused for want of support or of room; all else is done.
     pub fn fits(&self, ask: &Ask) -> bool
         ensures { result ≡ fits ask.now self.now }
     {
         match (ask, self) {
             (Ask::Reserve(_), DeskAnswer::Reserved { .. }) => true,
-            (Ask::Reserve(_), DeskAnswer::Refused(accept)) => matches!(*accept, 3 | 4 | 5),
+            (Ask::Reserve(_), DeskAnswer::Refused(accept)) => matches!(
+                *accept,
+                Accept::NotSupported | Accept::PermanentLimit | Accept::TemporaryLimit
+            ),
             (Ask::Reserve(_), DeskAnswer::Done) => false,
             (_, answer) => matches!(answer, DeskAnswer::Done),
         }

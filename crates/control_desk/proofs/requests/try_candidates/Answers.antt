@@ -1,5 +1,6 @@
 use Rattle.std.proofs.Common.{false, [], sym, ap, ◌∙◌}
 use Rattle.std.proofs.lemmas.List.{append-nil}
+use Rattle.control_msgs.specs.declared.codes.Accept.TheVariants.{TemporaryLimit}
 use Rattle.twamp_control.specs.declared.types.DeskAnswer.TheVariants.{Refused}
 use Rattle.control_desk.specs.Control.{chosen, is_candidate, try_all, after_tried}
 use Rattle.control_desk.proofs.Following.{follows_to, follows_then}
@@ -11,7 +12,7 @@ returns-then-not-tries_next-clause-done g c = λ d n next.
     let a = c.args in
     let r = a.wish.now.request.now in
     let others = chosen (is_candidate r.v6 a.wish.now.to.now r.receiver_port false) 0 a.locals.now in
-    follows_to (done_with c.try_locals-tried.result next (try_all a.wish.now.config.now a.wish.now.extra.now a.wish.now.from.now r next others) (next (Refused 5) []) (sym c.tries_next.ensures ∙ c.if-not-tries_next.true))
+    follows_to (done_with c.try_locals-tried.result next (try_all a.wish.now.config.now a.wish.now.extra.now a.wish.now.from.now r next others) (next (Refused TemporaryLimit) []) (sym c.tries_next.ensures ∙ c.if-not-tries_next.true))
     (c.try_locals-tried.ensures.done d n next others)
 
 pub returns-clause-done : goal.returns-clause-done

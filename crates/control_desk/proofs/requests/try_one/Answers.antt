@@ -1,6 +1,7 @@
 use Rattle.std.proofs.Common.{◌≡◌, ℕ, [], ◌∷◌, Ok, Err, refl, sym, ap, subst, ◌∙◌}
 use Rattle.refl_types.specs.declared.types.Key.{Key}
 use Rattle.refl_types.specs.Keys.{is_sound}
+use Rattle.control_msgs.specs.declared.codes.Accept.TheVariants.{TemporaryLimit}
 use Rattle.twamp_control.specs.declared.types.DeskAnswer.TheVariants.{Reserved, Refused}
 use Rattle.session_desk.specs.Makes.{Makes, reserves}
 use Rattle.control_desk.specs.declared.own.OwnSession.{OwnSession}
@@ -39,7 +40,7 @@ returns-then-is_taken-clause-done g c = λ d n next more.
     let plan = tried k a.port r next more in
     let same : c.key_at-key.result ≡ k = c.key_at-key.ensures in
     let made = subst (λ (j : Key). Makes a.table.now (reserves j a.wish.now.extra.now a.wish.now.config.now reserved_wait (Err fault)) a.book.now c.reserve.new.self) same c.in-Err.ensures.made in
-    follows_to (if_true _ more (next (Refused 5) []) (sym c.is_taken.ensures ∙ c.if-is_taken.true))
+    follows_to (if_true _ more (next (Refused TemporaryLimit) []) (sym c.is_taken.ensures ∙ c.if-is_taken.true))
     (follows_called (reserve k a.wish.now.extra.now a.wish.now.config.now reserved_wait plan) (plan (Err fault)) (reserves k a.wish.now.extra.now a.wish.now.config.now reserved_wait (Err fault)) d (refl, refl, refl, refl, refl) made refl)
 
 pub returns-else-is_taken-clause-done : goal.returns-else-is_taken-clause-done
@@ -52,5 +53,5 @@ returns-else-is_taken-clause-done g c = λ d n next more.
     let plan = tried k a.port r next more in
     let same : c.key_at-key.result ≡ k = c.key_at-key.ensures in
     let made = subst (λ (j : Key). Makes a.table.now (reserves j a.wish.now.extra.now a.wish.now.config.now reserved_wait (Err fault)) a.book.now c.reserve.new.self) same c.in-Err.ensures.made in
-    follows_to (if_false _ more (next (Refused 5) []) (sym c.is_taken.ensures ∙ c.if-is_taken.false))
+    follows_to (if_false _ more (next (Refused TemporaryLimit) []) (sym c.is_taken.ensures ∙ c.if-is_taken.false))
     (follows_called (reserve k a.wish.now.extra.now a.wish.now.config.now reserved_wait plan) (plan (Err fault)) (reserves k a.wish.now.extra.now a.wish.now.config.now reserved_wait (Err fault)) d (refl, refl, refl, refl, refl) made refl)
