@@ -67,14 +67,14 @@ risen_by : (old new n : ℕ) → 0 < n → RisesBy n old new → HasRisen old ne
 risen_by old new n some h = omega (arith, some, h.each)
 
 module _ {P S : Type 0} (v : PortView P S) (t : Table) (f : File) (config : ℕ → ConfigParts) where
-  worker_failed : (told : List PortEntry) (p q : P) (xs : List Step) (y : Tally) → IsServed v t f config told p q xs y → is_port_fault y.end ≡ true → HasRisen (v.faults p) (v.faults q)
+  worker_failed : (told : List PortEntry) (p q : P) (xs : List Step) (y : Tally) → IsServed v t f config told p q xs y → is_port_fault y.end ≡ true → HasRisen (v p).faults (v q).faults
   worker_failed told p q xs y h e =
       let many = row_at_end f.limit f.turns h.rounds (subst (λ (k : WorkEnd). IsEnd f.limit f.turns h.rounds k) (is_fault y.end e) h.worked.end) in
       let counted = row at_first (no_tally y.end) h.rounds (omega arith) in
       let same = ap (λ (z : Tally). z.recv_fault) h.worked.counted in
-      risen_by (v.faults p) (v.faults q) (y.recv_fault + y.send_fault) (omega (arith, many, counted, same)) h.faults
+      risen_by (v p).faults (v q).faults (y.recv_fault + y.send_fault) (omega (arith, many, counted, same)) h.faults
 
-  here : (p q : P) (ps qs : List P) → HasRisen (v.faults p) (v.faults q) → OneHasFailed v (p ∷ ps) (q ∷ qs)
+  here : (p q : P) (ps qs : List P) → HasRisen (v p).faults (v q).faults → OneHasFailed v (p ∷ ps) (q ∷ qs)
   here p q ps qs h = record { place = 0; inside = omega arith; risen = λ d. h }
 
   there : (p q : P) (ps qs : List P) → OneHasFailed v ps qs → OneHasFailed v (p ∷ ps) (q ∷ qs)
@@ -98,5 +98,5 @@ pub risen : (old new : ℕ) → Rises old new → HasRisen old new
 risen old new (inl h) = omega (arith, h)
 risen old new (inr h) = omega (arith, h.0, h.1)
 
-pub opening_failed : {P S : Type 0} (v : PortView P S) (ps qs : List P) → OneFails v.faults ps qs → OneHasFailed v ps qs
+pub opening_failed : {P S : Type 0} (v : PortView P S) (ps qs : List P) → OneFails v ps qs → OneHasFailed v ps qs
 opening_failed v ps qs h = record { place = h.place; inside = h.inside; risen = λ d. risen _ _ (h.rises d) }

@@ -21,7 +21,7 @@ HasRisen old new = counted old ≤ new
 pub record OneHasFailed {P S : Type 0} (v : PortView P S) (ps qs : List P) : Type 0 where
   pub place : ℕ
   pub inside : place < length ps
-  pub risen : (d : P) → HasRisen (v.faults (slice_index_or ps place d)) (v.faults (slice_index_or qs place d))
+  pub risen : (d : P) → HasRisen (v (slice_index_or ps place d)).faults (v (slice_index_or qs place d)).faults
 
 -- the report was written whole, and then its end was told, with this status
 pub record WritesReport (report : Report) (status : ℕ) (written written' : Option (List ℕ)) (faults faults' : ℕ) : Type 0 where
@@ -46,7 +46,7 @@ HasNoReport v w f ps qs d e = (report : Report) × Served v w f ps qs d e report
 -- 9: a port failed to open, which was told; nothing was received or sent
 pub record HasClosedPort {P S D : Type 0} (v : PortView P S) (ps qs : List P) (d e : D) (written written' : Option (List ℕ)) (faults faults' : ℕ) : Type 0 where
   pub quiet : AreQuiet v ps qs
-  pub fails : OneFails v.faults ps qs
+  pub fails : OneFails v ps qs
   pub desk : e ≡ d
   pub told : WritesLine port_line written written' faults faults'
 

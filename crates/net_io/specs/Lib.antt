@@ -3,3 +3,4 @@ pub mod Port
 pub mod ScriptPort
 pub mod Desk
 pub mod ScriptDesk
+pub mod PortShown

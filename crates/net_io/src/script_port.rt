@@ -153,15 +153,7 @@ impl Port for ScriptPort {
 
     type Setup = ();
 
-    ghost bound = { λ s. s.bound };
-
-    ghost coming = { λ s. Some s.coming };
-
-    ghost log = { told_log };
-
-    ghost made = { λ s. tt };
-
-    ghost faults = { λ s. s.faults };
+    ghost shown = { λ s. record { bound = s.bound; coming = Some s.coming; log = told_log s; made = tt; faults = s.faults } };
 
     fn open(&mut self, locals: &[LocalAddr]) -> Result<(), Failed>
         requires some { 1 ≤ length locals.now }

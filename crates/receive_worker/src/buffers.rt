@@ -51,16 +51,16 @@ impl Buffers {
 
     /// Receives a datagram, as `Port::recv` does. Its octets stand at the front of those that are received.
     pub fn recv<P: Port>(&mut self, port: &mut P) -> Result<Got, Failed>
-        requires { 0 < length (P.bound port.old) }
+        requires { 0 < length (P.shown port.old).bound }
         ensures kept { kept_rows self.new ≡ kept_rows self.old }
         ensures len { IfOk result (λ got. datagram_len got ≤ 65507) }
-        ensures bound { P.bound port.new ≡ P.bound port.old }
-        ensures coming { Receives (P.coming port.old) (P.coming port.new) (received self.new) result }
-        ensures log { Grows (P.log port.old) (P.log port.new) (recv_entry (received self.new) result ∷ []) }
-        ensures took { (meta : Meta) → result ≡ Ok (Datagram meta) → LastTook (P.log port.new) meta (take meta.len (received self.new)) }
-        ensures made { P.made port.new ≡ P.made port.old }
-        ensures still { OnOk result (P.faults port.new ≡ P.faults port.old) }
-        ensures cause { OnErr result (Rises (P.faults port.old) (P.faults port.new)) }
+        ensures bound { (P.shown port.new).bound ≡ (P.shown port.old).bound }
+        ensures coming { Receives (P.shown port.old).coming (P.shown port.new).coming (received self.new) result }
+        ensures log { Grows (P.shown port.old).log (P.shown port.new).log (recv_entry (received self.new) result ∷ []) }
+        ensures took { (meta : Meta) → result ≡ Ok (Datagram meta) → LastTook (P.shown port.new).log meta (take meta.len (received self.new)) }
+        ensures made { (P.shown port.new).made ≡ (P.shown port.old).made }
+        ensures still { OnOk result ((P.shown port.new).faults ≡ (P.shown port.old).faults) }
+        ensures cause { OnErr result (Rises (P.shown port.old).faults (P.shown port.new).faults) }
     {
         port.recv(&mut self.input)
     }

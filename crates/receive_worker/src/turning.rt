@@ -31,16 +31,16 @@ fn reply<P: Port>(
     number: u32,
     output: &mut [u8],
 ) -> Result<(), Unanswered>
-    requires bound { 0 < length (P.bound port.old) }
+    requires bound { 0 < length (P.shown port.old).bound }
     requires judged { judgement session.now.key.now.mode session.now.config.now datagram.now.octets.now ≡ judged.Reflect }
     requires limit { length datagram.now.octets.now ≤ 65507 }
     requires locals { length datagram.now.locals.now ≤ 16 }
     requires room { length output.old ≡ 65536 }
-    ensures replies { Replies session.now.key.now session.now.extra.now session.now.config.now number (arrived datagram.now) (P.log port.old) (P.log port.new) result }
-    ensures bound { P.bound port.new ≡ P.bound port.old }
-    ensures coming { P.coming port.new ≡ P.coming port.old }
-    ensures made { P.made port.new ≡ P.made port.old }
-    ensures faults { RisesBy (failed_sends result) (P.faults port.old) (P.faults port.new) }
+    ensures replies { Replies session.now.key.now session.now.extra.now session.now.config.now number (arrived datagram.now) (P.shown port.old).log (P.shown port.new).log result }
+    ensures bound { (P.shown port.new).bound ≡ (P.shown port.old).bound }
+    ensures coming { (P.shown port.new).coming ≡ (P.shown port.old).coming }
+    ensures made { (P.shown port.new).made ≡ (P.shown port.old).made }
+    ensures faults { RisesBy (failed_sends result) (P.shown port.old).faults (P.shown port.new).faults }
 {
     let sending = port.now();
     let reply = session.reflect(datagram, &Draw { number, sending }, output);
@@ -89,16 +89,16 @@ pub(crate) fn answer<P: Port>(
     requires same { IsWorkerOf table.now seat.old }
     requires nothing { HoldsNothing (worker_steps seat.old) }
     requires read { AreRead known.old (worker_steps seat.old) }
-    requires bound { 0 < length (P.bound port.old) }
+    requires bound { 0 < length (P.shown port.old).bound }
     requires limit { length datagram.now.octets.now ≤ 65507 }
     requires locals { length datagram.now.locals.now ≤ 16 }
     requires room { length output.old ≡ 65536 }
     ensures read { AreRead known.new (worker_steps seat.new) }
-    ensures turned { Turned table.now (arrived datagram.now) seat.old seat.new (P.log port.old) (P.log port.new) result }
-    ensures bound { P.bound port.new ≡ P.bound port.old }
-    ensures coming { P.coming port.new ≡ P.coming port.old }
-    ensures made { P.made port.new ≡ P.made port.old }
-    ensures faults { RisesBy (failed_sends result) (P.faults port.old) (P.faults port.new) }
+    ensures turned { Turned table.now (arrived datagram.now) seat.old seat.new (P.shown port.old).log (P.shown port.new).log result }
+    ensures bound { (P.shown port.new).bound ≡ (P.shown port.old).bound }
+    ensures coming { (P.shown port.new).coming ≡ (P.shown port.old).coming }
+    ensures made { (P.shown port.new).made ≡ (P.shown port.old).made }
+    ensures faults { RisesBy (failed_sends result) (P.shown port.old).faults (P.shown port.new).faults }
 {
     law_rows_read();
     law_reads();
@@ -147,15 +147,15 @@ pub fn turn<P: Port>(
 ) -> Result<(), Unanswered>
     requires same { IsWorkerOf table.now seat.old }
     requires nothing { HoldsNothing (worker_steps seat.old) }
-    requires bound { 0 < length (P.bound port.old) }
+    requires bound { 0 < length (P.shown port.old).bound }
     requires locals { length locals.now ≤ 16 }
     requires limit { meta.now.len ≤ 65507 }
-    requires took { LastTook (P.log port.old) meta.now (take meta.now.len (received buffers.old)) }
-    ensures turned { Turned table.now (arrived_at locals.now meta.now (take meta.now.len (received buffers.old))) seat.old seat.new (P.log port.old) (P.log port.new) result }
-    ensures bound { P.bound port.new ≡ P.bound port.old }
-    ensures coming { P.coming port.new ≡ P.coming port.old }
-    ensures made { P.made port.new ≡ P.made port.old }
-    ensures faults { RisesBy (failed_sends result) (P.faults port.old) (P.faults port.new) }
+    requires took { LastTook (P.shown port.old).log meta.now (take meta.now.len (received buffers.old)) }
+    ensures turned { Turned table.now (arrived_at locals.now meta.now (take meta.now.len (received buffers.old))) seat.old seat.new (P.shown port.old).log (P.shown port.new).log result }
+    ensures bound { (P.shown port.new).bound ≡ (P.shown port.old).bound }
+    ensures coming { (P.shown port.new).coming ≡ (P.shown port.old).coming }
+    ensures made { (P.shown port.new).made ≡ (P.shown port.old).made }
+    ensures faults { RisesBy (failed_sends result) (P.shown port.old).faults (P.shown port.new).faults }
 {
     buffers.known.forget();
     let datagram = Datagram {

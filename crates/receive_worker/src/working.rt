@@ -34,16 +34,16 @@ fn round<P: Port>(
     requires nothing { HoldsNothing (worker_steps seat.old) }
     requires retired { announced (worker_steps seat.old) ≡ None }
     requires read { AreRead (kept_rows buffers.old) (worker_steps seat.old) }
-    requires bound { 0 < length (P.bound port.old) }
+    requires bound { 0 < length (P.shown port.old).bound }
     requires locals { length locals.now ≤ 16 }
     ensures seat { HasCome table.now seat.old seat.new (worker_steps seat.new) }
     ensures nothing { HoldsNothing (worker_steps seat.new) }
     ensures retired { announced (worker_steps seat.new) ≡ None }
     ensures read { AreRead (kept_rows buffers.new) (worker_steps seat.new) }
-    ensures round { IsRound table.now locals.now seat.old seat.new (P.log port.old) (P.log port.new) result }
-    ensures bound { P.bound port.new ≡ P.bound port.old }
-    ensures made { P.made port.new ≡ P.made port.old }
-    ensures faults { RisesBy (failures_of result) (P.faults port.old) (P.faults port.new) }
+    ensures round { IsRound table.now locals.now seat.old seat.new (P.shown port.old).log (P.shown port.new).log result }
+    ensures bound { (P.shown port.new).bound ≡ (P.shown port.old).bound }
+    ensures made { (P.shown port.new).made ≡ (P.shown port.old).made }
+    ensures faults { RisesBy (failures_of result) (P.shown port.old).faults (P.shown port.new).faults }
 {
     match buffers.recv(port) {
         Err(_) => Begun::Failed,
@@ -77,15 +77,15 @@ fn take_all<P: Port>(
     requires nothing { HoldsNothing (worker_steps seat.old) }
     requires retired { announced (worker_steps seat.old) ≡ None }
     requires read { AreRead (kept_rows buffers.old) (worker_steps seat.old) }
-    requires bound { 0 < length (P.bound port.old) }
+    requires bound { 0 < length (P.shown port.old).bound }
     requires locals { length locals.now ≤ 16 }
     ensures seat { HasCome table.now seat.old seat.new (worker_steps seat.new) }
     ensures nothing { HoldsNothing (worker_steps seat.new) }
     ensures retired { announced (worker_steps seat.new) ≡ None }
-    ensures works { IsWork table.now locals.now limit turns seat.old seat.new (P.log port.old) (P.log port.new) result }
-    ensures bound { P.bound port.new ≡ P.bound port.old }
-    ensures made { P.made port.new ≡ P.made port.old }
-    ensures faults { RisesBy (result.recv_fault + result.send_fault) (P.faults port.old) (P.faults port.new) }
+    ensures works { IsWork table.now locals.now limit turns seat.old seat.new (P.shown port.old).log (P.shown port.new).log result }
+    ensures bound { (P.shown port.new).bound ≡ (P.shown port.old).bound }
+    ensures made { (P.shown port.new).made ≡ (P.shown port.old).made }
+    ensures faults { RisesBy (result.recv_fault + result.send_fault) (P.shown port.old).faults (P.shown port.new).faults }
 {
     law_reads();
     let mut tally = Tally::new();
@@ -119,13 +119,13 @@ pub fn work<P: Port>(
 ) -> Tally
     requires same { IsWorkerOf table.now seat.old }
     requires nothing { HoldsNothing (worker_steps seat.old) }
-    requires bound { 0 < length (P.bound port.old) }
+    requires bound { 0 < length (P.shown port.old).bound }
     requires locals { length locals.now ≤ 16 }
-    ensures worked { Worked table.now locals.now limit turns seat.old seat.new (P.log port.old) (P.log port.new) result }
+    ensures worked { Worked table.now locals.now limit turns seat.old seat.new (P.shown port.old).log (P.shown port.new).log result }
     ensures accounts { Accounts (size_of table.now).slots (worker_steps seat.old) (worker_steps seat.new) result }
-    ensures bound { P.bound port.new ≡ P.bound port.old }
-    ensures made { P.made port.new ≡ P.made port.old }
-    ensures faults { RisesBy (result.recv_fault + result.send_fault) (P.faults port.old) (P.faults port.new) }
+    ensures bound { (P.shown port.new).bound ≡ (P.shown port.old).bound }
+    ensures made { (P.shown port.new).made ≡ (P.shown port.old).made }
+    ensures faults { RisesBy (result.recv_fault + result.send_fault) (P.shown port.old).faults (P.shown port.new).faults }
 {
     law_rows_read();
     let _size = table.size();

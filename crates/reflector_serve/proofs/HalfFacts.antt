@@ -62,7 +62,7 @@ worked_halves {P} v t f all posts ps qs rs ss ps' qs' rs' ss' h g e a b =
 -- ---- one post
 
 pub one_ready : {P S : Type 0} (v : PortView P S) (t : Table) (locals : List Endpoint) (ps : List P) (rs : List (Post P)) (d : P) (e : Post P) → length rs ≡ 1 → AreReady v t locals ps rs
-    → (v.bound (get_or ps 0 d) ≡ locals) × IsWorkerOf t (get_or rs 0 e).seat × (worker_steps (get_or rs 0 e).seat ≡ [])
+    → ((v (get_or ps 0 d)).bound ≡ locals) × IsWorkerOf t (get_or rs 0 e).seat × (worker_steps (get_or rs 0 e).seat ≡ [])
 one_ready v t locals (p ∷ ps) (r ∷ rs) d e one a = a.all.0
 one_ready v t locals [] (r ∷ rs) d e one a = absurd a.all
 one_ready v t locals ps [] d e one a = absurd (omega (arith, one))

@@ -8,7 +8,7 @@ use Rattle.port_io.specs.Outside.{Rises}
 use Rattle.reflector_serve.specs.Ports.{PortView, IsIdle, IsBound, Each, OneFails}
 
 pub idle_still : {P S : Type 0} (v : PortView P S) (p q : P) → q ≡ p → IsIdle v p q
-idle_still v p q e = record { log = ap v.log e; coming = ap v.coming e; made = ap v.made e }
+idle_still v p q e = record { log = ap (λ (p : _). (v p).log) e; coming = ap (λ (p : _). (v p).coming) e; made = ap (λ (p : _). (v p).made) e }
 
 -- so many of the ports share the local addresses, and the others are as they were
 pub record Sharing {P S : Type 0} (v : PortView P S) (locals : List Endpoint) (n : ℕ) (ps qs : List P) : Type 0 where
@@ -56,17 +56,17 @@ module _ {P S : Type 0} (v : PortView P S) (locals : List Endpoint) (n : ℕ) (p
         (cases_order i n);
   }
 
-  pub one_fails : Rises (v.faults (get_or qs n d0)) (v.faults x) → OneFails v.faults ps (set qs n x)
+  pub one_fails : Rises ((v (get_or qs n d0)).faults) (v x).faults → OneFails v ps (set qs n x)
   one_fails h = record {
     place = n;
     inside = (let l = s.len in omega (arith, inside, l));
-    rises = λ d. subst (λ (y : P). Rises (v.faults y) (v.faults (get_or (set qs n x) n d))) (was d) (subst (λ (y : P). Rises (v.faults (get_or qs n d0)) (v.faults y)) (is n d refl) h);
+    rises = λ d. subst (λ (y : P). Rises (v y).faults ((v (get_or (set qs n x) n d)).faults)) (was d) (subst (λ (y : P). Rises ((v (get_or qs n d0)).faults) (v y).faults) (is n d refl) h);
   }
 
 -- a port behind the first fails
-pub later_fails : {P : Type 0} (faults : P → ℕ) (r : Result (Unit {0}) Failed) (ps os os' : List P) (p q : P) → ps ≡ p ∷ os → OnErr r (OneFails faults os os') → OnErr r (OneFails faults ps (q ∷ os'))
-later_fails faults (Ok u) ps os os' p q e h = tt
-later_fails {P} faults (Err f) ps os os' p q e h = subst (λ (xs : List P). OneFails faults xs (q ∷ os')) (sym e) (record { place = suc h.place; inside = (let l = h.inside in omega (arith, l)); rises = h.rises })
+pub later_fails : {P S : Type 0} (v : PortView P S) (r : Result (Unit {0}) Failed) (ps os os' : List P) (p q : P) → ps ≡ p ∷ os → OnErr r (OneFails v os os') → OnErr r (OneFails v ps (q ∷ os'))
+later_fails v (Ok u) ps os os' p q e h = tt
+later_fails {P} v (Err f) ps os os' p q e h = subst (λ (xs : List P). OneFails v xs (q ∷ os')) (sym e) (record { place = suc h.place; inside = (let l = h.inside in omega (arith, l)); rises = h.rises })
 
 pub on_err : {A : Type 0} (r : Result (Unit {0}) Failed) → A → OnErr r A
 on_err (Ok u) a = tt

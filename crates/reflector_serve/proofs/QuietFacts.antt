@@ -25,16 +25,16 @@ grows_none {E} a b e = subst (λ (x : Option (List E)). Grows a x []) (sym e) (s
 module _ {P S : Type 0} (v : PortView P S) (moment : ℕ) (ps ts os : List P) (told : FirstTold v moment ps ts) where
   first_quiet : (d : P) → IsIdle v (get_or ts 0 d) (get_or os 0 d) → IsQuiet v (read moment ∷ []) (get_or ps 0 d) (get_or os 0 d)
   first_quiet d idle = let f = told.first d in record {
-    log = subst (λ (x : Option (List PortEntry)). Grows (v.log (get_or ps 0 d)) x (read moment ∷ [])) (sym idle.log) f.log;
+    log = subst (λ (x : Option (List PortEntry)). Grows ((v (get_or ps 0 d)).log) x (read moment ∷ [])) (sym idle.log) f.log;
     coming = idle.coming ∙ f.coming;
     made = idle.made ∙ f.made;
   }
 
   other_quiet : (i : ℕ) (d : P) → 0 < i → i < length ps → IsIdle v (get_or ts i d) (get_or os i d) → IsQuiet v [] (get_or ps i d) (get_or os i d)
   other_quiet i d some lt idle = let e = told.others i d some lt in record {
-    log = grows_none (v.log (get_or ps i d)) (v.log (get_or os i d)) (idle.log ∙ ap v.log e);
-    coming = idle.coming ∙ ap v.coming e;
-    made = idle.made ∙ ap v.made e;
+    log = grows_none ((v (get_or ps i d)).log) ((v (get_or os i d)).log) (idle.log ∙ ap (λ (p : _). (v p).log) e);
+    coming = idle.coming ∙ ap (λ (p : _). (v p).coming) e;
+    made = idle.made ∙ ap (λ (p : _). (v p).made) e;
   }
 
   pub all_quiet : Each (IsIdle v) ts os → AllPorts (IsQuiet v (read moment ∷ [])) (IsQuiet v []) ps os
@@ -45,4 +45,4 @@ module _ {P S : Type 0} (v : PortView P S) (moment : ℕ) (ps ts os : List P) (t
   pub all_opening : (locals : List Endpoint) → Each (IsBound v locals) ts os → AllPorts (IsOpening v locals (read moment ∷ [])) (IsOpening v locals []) ps os
   all_opening locals each = let l = told.len in all_ports (IsOpening v locals (read moment ∷ [])) (IsOpening v locals []) ps os (each.len ∙ told.len)
       (λ d some. let b = each.each 0 d (omega (arith, some, l)) in record { quiet = first_quiet d b.idle; bound = b.bound; still = b.still ∙ (told.first d).still })
-      (λ i d some lt. let b = each.each i d (omega (arith, lt, l)) in record { quiet = other_quiet i d some lt b.idle; bound = b.bound; still = b.still ∙ ap v.faults (told.others i d some lt) })
+      (λ i d some lt. let b = each.each i d (omega (arith, lt, l)) in record { quiet = other_quiet i d some lt b.idle; bound = b.bound; still = b.still ∙ ap (λ (p : _). (v p).faults) (told.others i d some lt) })

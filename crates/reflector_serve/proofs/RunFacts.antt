@@ -63,12 +63,12 @@ one_served v t f config told p o q r m opening w none reads = record {
   opened = o;
   opening = opening.quiet;
   rounds = w.worked.rounds;
-  worked = subst (λ (xs : List Step). HasWorked config (size_of t) f.locals f.limit f.turns w.worked.rounds xs (worker_steps m.seat) (v.log o) (v.log q) m.tally) none (w.worked.worked config reads);
+  worked = subst (λ (xs : List Step). HasWorked config (size_of t) f.locals f.limit f.turns w.worked.rounds xs (worker_steps m.seat) (v o).log (v q).log m.tally) none (w.worked.worked config reads);
   accounts = subst (λ (xs : List Step). Accounts (size_of t).slots xs (worker_steps m.seat) m.tally) none w.accounts;
   retired = w.worked.retired;
   bound = w.bound ∙ opening.bound;
   made = w.made ∙ opening.quiet.made;
-  faults = subst (λ (n : ℕ). RisesBy (m.tally.recv_fault + m.tally.send_fault) n (v.faults q)) opening.still w.faults;
+  faults = subst (λ (n : ℕ). RisesBy (m.tally.recv_fault + m.tally.send_fault) n (v q).faults) opening.still w.faults;
 }
 
 all_served : {P S : Type 0} (v : PortView P S) (t : Table) (f : File) (ds : List Step) (h : List (Event ConfigParts)) (w : ℕ) (told : List PortEntry) (ps os qs : List P) (rs mid : List (Post P))

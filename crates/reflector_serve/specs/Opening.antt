@@ -8,5 +8,5 @@ use Rattle.reflector_serve.specs.Served.{IsQuiet}
 -- it is bound to these local addresses, and has told these entries
 pub record IsOpening {P S : Type 0} (v : PortView P S) (locals : List Endpoint) (told : List PortEntry) (p q : P) : Type 0 where
   pub quiet : IsQuiet v told p q
-  pub bound : v.bound q ≡ locals
-  pub still : v.faults q ≡ v.faults p
+  pub bound : (v q).bound ≡ locals
+  pub still : (v q).faults ≡ (v p).faults

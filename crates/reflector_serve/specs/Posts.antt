@@ -38,7 +38,7 @@ lists_of (r ∷ rs) = worker_steps r.seat ∷ lists_of rs
 -- a worker may work at the port
 abbrev pub AllReady : {P S : Type 0} → PortView P S → Table → List Endpoint → List P → List (Post P) → Type 0
 AllReady v t locals ps [] = Unit {0}
-AllReady v t locals (p ∷ ps) (r ∷ rs) = ((v.bound p ≡ locals) × IsWorkerOf t r.seat × (worker_steps r.seat ≡ [])) × AllReady v t locals ps rs
+AllReady v t locals (p ∷ ps) (r ∷ rs) = (((v p).bound ≡ locals) × IsWorkerOf t r.seat × (worker_steps r.seat ≡ [])) × AllReady v t locals ps rs
 AllReady v t locals [] (r ∷ rs) = ⊥
 
 -- the same as one fact, which a closure can ask for
@@ -47,11 +47,11 @@ pub record AreReady {P S : Type 0} (v : PortView P S) (t : Table) (locals : List
 
 -- a worker went through its rounds at the port
 pub record WorkedAt {P S : Type 0} (v : PortView P S) (t : Table) (f : File) (p q : P) (r s : Post P) : Type 0 where
-  pub worked : Worked t f.locals f.limit f.turns r.seat s.seat (v.log p) (v.log q) s.tally
+  pub worked : Worked t f.locals f.limit f.turns r.seat s.seat (v p).log (v q).log s.tally
   pub accounts : Accounts (size_of t).slots (worker_steps r.seat) (worker_steps s.seat) s.tally
-  pub bound : v.bound q ≡ v.bound p
-  pub made : v.made q ≡ v.made p
-  pub faults : RisesBy (s.tally.recv_fault + s.tally.send_fault) (v.faults p) (v.faults q)
+  pub bound : (v q).bound ≡ (v p).bound
+  pub made : (v q).made ≡ (v p).made
+  pub faults : RisesBy (s.tally.recv_fault + s.tally.send_fault) (v p).faults (v q).faults
 
 -- each worker at the port in its place, and the ports beyond the last worker are as they were
 abbrev pub AllWorked : {P S : Type 0} → PortView P S → Table → File → List P → List P → List (Post P) → List (Post P) → Type 0

@@ -40,9 +40,9 @@ opening_event s = record { by = 0; answer = opened_by s.key s.extra s.config }
 
 -- nothing was received or sent, and the log has just these entries more
 pub record IsQuiet {P S : Type 0} (v : PortView P S) (told : List PortEntry) (p q : P) : Type 0 where
-  pub log : Grows (v.log p) (v.log q) told
-  pub coming : v.coming q ≡ v.coming p
-  pub made : v.made q ≡ v.made p
+  pub log : Grows (v p).log (v q).log told
+  pub coming : (v q).coming ≡ (v p).coming
+  pub made : (v q).made ≡ (v p).made
 
 -- the first port as one relation says, and all others as another
 abbrev pub AllPorts : {P : Type 0} → (P → P → Type 0) → (P → P → Type 0) → List P → List P → Type 0
@@ -62,12 +62,12 @@ pub record IsServed {P S : Type 0} (v : PortView P S) (t : Table) (f : File) (co
   pub opened : P
   pub opening : IsQuiet v told p opened
   pub rounds : List Round
-  pub worked : HasWorked config (size_of t) f.locals f.limit f.turns rounds [] xs (v.log opened) (v.log q) tally
+  pub worked : HasWorked config (size_of t) f.locals f.limit f.turns rounds [] xs (v opened).log (v q).log tally
   pub accounts : Accounts (size_of t).slots [] xs tally
   pub retired : announced xs ≡ None
-  pub bound : v.bound q ≡ f.locals
-  pub made : v.made q ≡ v.made p
-  pub faults : RisesBy (tally.recv_fault + tally.send_fault) (v.faults p) (v.faults q)
+  pub bound : (v q).bound ≡ f.locals
+  pub made : (v q).made ≡ (v p).made
+  pub faults : RisesBy (tally.recv_fault + tally.send_fault) (v p).faults (v q).faults
 
 -- the workers served at the first ports, each in its place, with these lists of steps and these tallies; all other ports are as
 -- they were

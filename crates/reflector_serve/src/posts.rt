@@ -3,7 +3,6 @@
 ghost use Rattle.std.specs.Prelude.{◌≡◌, ◌≤◌, [], length};
 ghost use Rattle.std.specs.Thread.{IsSync, IsSend};
 ghost use Rattle.session_rule.specs.Seats.{IsWorkerOf, worker_steps};
-ghost use Rattle.reflector_serve.specs.Ports.{port_view};
 ghost use Rattle.reflector_serve.specs.Posts.{AreReady, WorkedAt, AllWorked};
 
 use crate::post::Post;
@@ -16,10 +15,10 @@ use std::thread::{Threads, join_mut};
 #[tactic(auto, using(crate::proofs::SeatFacts::holds_nothing))]
 /// Has a worker work at its port.
 fn work_at<P: Port>(table: &Table, conf: &Conf, port: &mut P, post: &mut Post<P>)
-    requires bound { P.bound port.old ≡ conf.now.locals }
+    requires bound { (P.shown port.old).bound ≡ conf.now.locals }
     requires seat { IsWorkerOf table.now post.old.seat }
     requires fresh { worker_steps post.old.seat ≡ [] }
-    ensures { WorkedAt (port_view P.log P.coming P.bound P.made P.faults) table.now conf.now port.old port.new post.old post.new }
+    ensures { WorkedAt P.shown table.now conf.now port.old port.new post.old post.new }
 {
     post.tally = work(
         table,
@@ -42,8 +41,8 @@ pub(crate) fn work_all<R: Threads + Sync, P: Port + Send>(
     posts: &mut [Post<P>],
 )
     requires enough { length posts.old ≤ length ports.old }
-    requires ready { AreReady (port_view P.log P.coming P.bound P.made P.faults) table.now conf.now.locals ports.old posts.old }
-    ensures { AllWorked (port_view P.log P.coming P.bound P.made P.faults) table.now conf.now ports.old ports.new posts.old posts.new }
+    requires ready { AreReady P.shown table.now conf.now.locals ports.old posts.old }
+    ensures { AllWorked P.shown table.now conf.now ports.old ports.new posts.old posts.new }
 {
     if posts.is_empty() {
         return;
@@ -58,12 +57,12 @@ pub(crate) fn work_all<R: Threads + Sync, P: Port + Send>(
     join_mut(
         rt,
         &mut ||
-            requires { IsSync R.row × IsSend P.row × (length front_posts.now ≤ length front.now) × AreReady (port_view P.log P.coming P.bound P.made P.faults) table.now conf.now.locals front.now front_posts.now }
-            ensures { AllWorked (port_view P.log P.coming P.bound P.made P.faults) table.entry.now conf.entry.now front.entry.now front.exit.now front_posts.entry.now front_posts.exit.now }
+            requires { IsSync R.row × IsSend P.row × (length front_posts.now ≤ length front.now) × AreReady P.shown table.now conf.now.locals front.now front_posts.now }
+            ensures { AllWorked P.shown table.entry.now conf.entry.now front.entry.now front.exit.now front_posts.entry.now front_posts.exit.now }
         { work_all(rt, table, conf, front, front_posts) },
         &mut ||
-            requires { IsSync R.row × IsSend P.row × (length back_posts.now ≤ length back.now) × AreReady (port_view P.log P.coming P.bound P.made P.faults) table.now conf.now.locals back.now back_posts.now }
-            ensures { AllWorked (port_view P.log P.coming P.bound P.made P.faults) table.entry.now conf.entry.now back.entry.now back.exit.now back_posts.entry.now back_posts.exit.now }
+            requires { IsSync R.row × IsSend P.row × (length back_posts.now ≤ length back.now) × AreReady P.shown table.now conf.now.locals back.now back_posts.now }
+            ensures { AllWorked P.shown table.entry.now conf.entry.now back.entry.now back.exit.now back_posts.entry.now back_posts.exit.now }
         { work_all(rt, table, conf, back, back_posts) },
     );
 }

@@ -4,7 +4,6 @@ ghost use Rattle.std.specs.Prelude.{◌≡◌, ℕ, ◌≤◌, List, [], length,
 ghost use Rattle.std.specs.Thread.{IsSync, IsSend};
 ghost use Rattle.session_world.specs.declared.steps.Step.{Step};
 ghost use Rattle.session_desk.specs.Book.{IsBookOf};
-ghost use Rattle.reflector_serve.specs.Ports.{port_view};
 ghost use Rattle.reflector_serve.specs.Posts.{AreReady, AllWorked, AreSeated, AreNumbered, AreFresh};
 ghost use Rattle.reflector_serve.specs.Running.{DeskRan, HasServed};
 ghost use Rattle.reflector_serve.specs.Served.{desk_view};
@@ -50,17 +49,17 @@ pub(crate) fn run_all<R: Threads + Sync, P: Port + Send, D: Desk>(
     desk: &mut D,
 ) -> DeskTally
     requires enough { length posts.old ≤ length ports.old }
-    requires ready { AreReady (port_view P.log P.coming P.bound P.made P.faults) table.now conf.now.locals ports.old posts.old }
+    requires ready { AreReady P.shown table.now conf.now.locals ports.old posts.old }
     requires book { IsBookOf table.now book.old }
     requires open { IsTrue (D.is_open desk.old) }
-    ensures workers { AllWorked (port_view P.log P.coming P.bound P.made P.faults) table.now conf.now ports.old ports.new posts.old posts.new }
+    ensures workers { AllWorked P.shown table.now conf.now ports.old ports.new posts.old posts.new }
     ensures desk { DeskRan table.now (desk_view D.log D.coming D.made D.faults) conf.now.turns room.old desk.old desk.new book.old book.new result }
 {
     let (_, tally) = join_mut(
         rt,
         &mut ||
-            requires { IsSync R.row × IsSend P.row × (length posts.now ≤ length ports.now) × AreReady (port_view P.log P.coming P.bound P.made P.faults) table.now conf.now.locals ports.now posts.now }
-            ensures { AllWorked (port_view P.log P.coming P.bound P.made P.faults) table.entry.now conf.entry.now ports.entry.now ports.exit.now posts.entry.now posts.exit.now }
+            requires { IsSync R.row × IsSend P.row × (length posts.now ≤ length ports.now) × AreReady P.shown table.now conf.now.locals ports.now posts.now }
+            ensures { AllWorked P.shown table.entry.now conf.entry.now ports.entry.now ports.exit.now posts.entry.now posts.exit.now }
         { work_all(rt, table, conf, ports, posts) },
         &mut ||
             requires { IsBookOf table.now book.now × IsTrue (D.is_open desk.now) }
@@ -93,7 +92,7 @@ pub(crate) fn serve_split<R: Threads + Sync, P: Port + Send, D: Desk>(
     room: &mut DeskRoom,
     desk: &mut D,
 ) -> Report
-    requires ready { AreReady (port_view P.log P.coming P.bound P.made P.faults) table.now conf.now.locals ports.old posts.items }
+    requires ready { AreReady P.shown table.now conf.now.locals ports.old posts.items }
     requires ports { length ports.old ≡ vec_len posts }
     requires seats { AreSeated table.now posts.items }
     requires numbers { AreNumbered 1 posts.items }
@@ -103,7 +102,7 @@ pub(crate) fn serve_split<R: Threads + Sync, P: Port + Send, D: Desk>(
     requires empty { tallies.items ≡ [] }
     requires space { vec_len posts ≤ vec_capacity tallies }
     ensures { (first base : List Step) → Phase table.now first base book.old (vec_len posts) []
-        → HasServed (port_view P.log P.coming P.bound P.made P.faults) (desk_view D.log D.coming D.made D.faults) table.now conf.now room.old first ports.old ports.new desk.old desk.new book.old book.new result }
+        → HasServed P.shown (desk_view D.log D.coming D.made D.faults) table.now conf.now room.old first ports.old ports.new desk.old desk.new book.old book.new result }
 {
     let tally = run_all(
         rt,

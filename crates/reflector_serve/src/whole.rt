@@ -1,7 +1,7 @@
 //! The call that opens everything, serves and joins.
 
 ghost use Rattle.std.specs.Prelude.{◌≡◌, ℕ, ◌<◌, ◌≤◌, [], Err, length, vec_len, vec_capacity, IfOk};
-ghost use Rattle.reflector_serve.specs.Ports.{port_view, OneFails};
+ghost use Rattle.reflector_serve.specs.Ports.{OneFails};
 ghost use Rattle.reflector_serve.specs.Served.{desk_view, AreQuiet, HasNotOpened, Served};
 
 use crate::ports::{open_ports, read_first};
@@ -44,9 +44,9 @@ fn serve_at<R: Threads + Sync, P: Port + Send, D: Desk>(
 ) -> Result<Report, ServeFault>
     requires { length ports.old ≡ conf.now.workers }
     ensures memory { result ≡ Err ServeFault.Memory → (ports.new ≡ ports.old) × (desk.new ≡ desk.old) }
-    ensures port_open { result ≡ Err ServeFault.PortOpen → AreQuiet (port_view P.log P.coming P.bound P.made P.faults) ports.old ports.new × OneFails P.faults ports.old ports.new × (desk.new ≡ desk.old) }
-    ensures desk_open { result ≡ Err ServeFault.DeskOpen → AreQuiet (port_view P.log P.coming P.bound P.made P.faults) ports.old ports.new × HasNotOpened (desk_view D.log D.coming D.made D.faults) desk.old desk.new }
-    ensures served { IfOk result (λ r. Served (port_view P.log P.coming P.bound P.made P.faults) (desk_view D.log D.coming D.made D.faults) conf.now ports.old ports.new desk.old desk.new r) }
+    ensures port_open { result ≡ Err ServeFault.PortOpen → AreQuiet P.shown ports.old ports.new × OneFails P.shown ports.old ports.new × (desk.new ≡ desk.old) }
+    ensures desk_open { result ≡ Err ServeFault.DeskOpen → AreQuiet P.shown ports.old ports.new × HasNotOpened (desk_view D.log D.coming D.made D.faults) desk.old desk.new }
+    ensures served { IfOk result (λ r. Served P.shown (desk_view D.log D.coming D.made D.faults) conf.now ports.old ports.new desk.old desk.new r) }
 {
     let count = conf.workers() as usize;
     let Ok((table, mut book)) = new_table(alloc, conf) else {
@@ -91,9 +91,9 @@ pub fn serve<R: Threads + Sync, P: Port + Send, D: Desk>(
 ) -> Result<Report, ServeFault>
     requires { conf.now.workers ≤ length ports.old }
     ensures memory { result ≡ Err ServeFault.Memory → (ports.new ≡ ports.old) × (desk.new ≡ desk.old) }
-    ensures port_open { result ≡ Err ServeFault.PortOpen → AreQuiet (port_view P.log P.coming P.bound P.made P.faults) ports.old ports.new × OneFails P.faults ports.old ports.new × (desk.new ≡ desk.old) }
-    ensures desk_open { result ≡ Err ServeFault.DeskOpen → AreQuiet (port_view P.log P.coming P.bound P.made P.faults) ports.old ports.new × HasNotOpened (desk_view D.log D.coming D.made D.faults) desk.old desk.new }
-    ensures served { IfOk result (λ r. Served (port_view P.log P.coming P.bound P.made P.faults) (desk_view D.log D.coming D.made D.faults) conf.now ports.old ports.new desk.old desk.new r) }
+    ensures port_open { result ≡ Err ServeFault.PortOpen → AreQuiet P.shown ports.old ports.new × OneFails P.shown ports.old ports.new × (desk.new ≡ desk.old) }
+    ensures desk_open { result ≡ Err ServeFault.DeskOpen → AreQuiet P.shown ports.old ports.new × HasNotOpened (desk_view D.log D.coming D.made D.faults) desk.old desk.new }
+    ensures served { IfOk result (λ r. Served P.shown (desk_view D.log D.coming D.made D.faults) conf.now ports.old ports.new desk.old desk.new r) }
 {
     let (serving, _others) = ports.split_at_mut(conf.workers() as usize);
     serve_at(rt, alloc, conf, serving, desk)

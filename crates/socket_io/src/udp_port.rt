@@ -125,15 +125,7 @@ impl<R: Net + Clock + Copy> Port for UdpPort<R> {
 
     type Setup = ();
 
-    ghost bound = { λ port. port.bound };
-
-    ghost coming = { λ port. None };
-
-    ghost log = { λ port. None };
-
-    ghost made = { λ port. tt };
-
-    ghost faults = { λ port. port.faults };
+    ghost shown = { λ port. record { bound = port.bound; coming = None; log = None; made = tt; faults = port.faults } };
 
     fn open(&mut self, locals: &[LocalAddr]) -> Result<(), Failed> {
         let Ok(sockets) = Sockets::bind(&self.rt, self.alloc, locals) else {

@@ -136,15 +136,7 @@ impl Port for GatedPort {
 
     type Setup = ();
 
-    ghost bound = { λ port. port.bound.items };
-
-    ghost coming = { λ port. None };
-
-    ghost log = { λ port. None };
-
-    ghost made = { λ port. tt };
-
-    ghost faults = { λ port. port.faults };
+    ghost shown = { λ port. record { bound = port.bound.items; coming = None; log = None; made = tt; faults = port.faults } };
 
     fn open(&mut self, locals: &[LocalAddr]) -> Result<(), Failed> {
         self.bind(locals)

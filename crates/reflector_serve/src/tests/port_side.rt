@@ -124,15 +124,7 @@ impl Port for SeatedPort {
 
     type Setup = ();
 
-    ghost bound = { λ p. p.port.bound };
-
-    ghost coming = { λ p. None };
-
-    ghost log = { λ p. None };
-
-    ghost made = { λ p. tt };
-
-    ghost faults = { λ p. p.port.faults };
+    ghost shown = { λ p. record { bound = p.port.bound; coming = None; log = None; made = tt; faults = p.port.faults } };
 
     fn open(&mut self, locals: &[LocalAddr]) -> Result<(), Failed> {
         self.port.open(locals)

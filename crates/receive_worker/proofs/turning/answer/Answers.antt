@@ -17,7 +17,7 @@ returns-in_default-clause-read g c = c.find_by.ensures.known.read c.requires.rea
 
 pub returns-in_default-clause-turned : goal.returns-in_default-clause-turned
 returns-in_default-clause-turned g c =
-    missed_turn c.args.table.now (arrived c.args.datagram.now) c.args.seat.now c.find_by.new.seat (g.P.Port.log c.args.port.now) c.in_default.field-0 c.in_default.ensures.sees.0 c.in_default.ensures.seat
+    missed_turn c.args.table.now (arrived c.args.datagram.now) c.args.seat.now c.find_by.new.seat (g.P.Port.shown c.args.port.now).log c.in_default.field-0 c.in_default.ensures.sees.0 c.in_default.ensures.seat
 
 pub invariant_of-seen : goal.invariant_of-seen
 invariant_of-seen g c = record {
@@ -36,7 +36,7 @@ returns-in-Silent-clause-turned g c =
     let met : Sighted t d c.args.seat.now c.find_by.new.seat s c.config.result.now =
     sighted_by t d c.args.seat.now c.find_by.new.seat c.args.known.now c.find_by.new.known s c.config.result.now c.in-Held.ensures.sees c.in-Held.ensures.seat c.config.ensures (c.in-Held.ensures.known.read c.requires.read) in
     let gone : LetGo t c.find_by.new.seat c.retire.new.seat = record { come = c.retire.ensures.seat; nothing = c.retire.ensures.nothing; retired = c.retire.ensures.retired; answers = c.retire.ensures.answers } in
-    silent_turn t d c.args.seat.now c.find_by.new.seat c.retire.new.seat (g.P.Port.log c.args.port.now) s c.config.result.now c.in-Silent.why c.silence.result c.law_reads.ensures met gone
+    silent_turn t d c.args.seat.now c.find_by.new.seat c.retire.new.seat (g.P.Port.shown c.args.port.now).log s c.config.result.now c.in-Silent.why c.silence.result c.law_reads.ensures met gone
     (sym c.judge.ensures ∙ c.in-Silent.is) c.silence.ensures
 
 pub returns-in_default-drawn-clause-read : goal.returns-in_default-drawn-clause-read
@@ -50,7 +50,7 @@ returns-in_default-drawn-clause-turned g c =
     let met : Sighted t d c.args.seat.now c.find_by.new.seat s c.config.result.now =
     sighted_by t d c.args.seat.now c.find_by.new.seat c.args.known.now c.find_by.new.known s c.config.result.now c.in-Held.ensures.sees c.in-Held.ensures.seat c.config.ensures (c.in-Held.ensures.known.read c.requires.read) in
     let gone : LetGo t c.draw_by-drawn.new.seat c.retire-2.new.seat = record { come = c.retire-2.ensures.seat; nothing = c.retire-2.ensures.nothing; retired = c.retire-2.ensures.retired; answers = c.retire-2.ensures.answers } in
-    late_turn t d c.args.seat.now c.find_by.new.seat c.draw_by-drawn.new.seat c.retire-2.new.seat (g.P.Port.log c.args.port.now) s c.config.result.now c.law_reads.ensures met c.in_default-drawn.ensures.seat
+    late_turn t d c.args.seat.now c.find_by.new.seat c.draw_by-drawn.new.seat c.retire-2.new.seat (g.P.Port.shown c.args.port.now).log s c.config.result.now c.law_reads.ensures met c.in_default-drawn.ensures.seat
     (c.in_default-drawn.ensures.draws (query d) c.in-Held.ensures.sees.saw.held).0 gone (sym c.judge.ensures ∙ c.in_default-judge.is)
 
 pub config-requires-2 : goal.config-requires-2
@@ -95,7 +95,7 @@ returns-then-not-reflects_still-clause-turned g c =
     c.in-Number.ensures.seat c.config-2.ensures (c.in-Number.ensures.known.read (c.in-Held.ensures.known.read c.requires.read)) in
     let gone : LetGo t c.draw_by-drawn.new.seat c.retire-2.new.seat = record { come = c.retire-2.ensures.seat; nothing = c.retire-2.ensures.nothing; retired = c.retire-2.ensures.retired; answers = c.retire-2.ensures.answers } in
     let no = c.reflects_still.ensures.no c.if-not-reflects_still.true in
-    changed_turn t d c.args.seat.now c.find_by.new.seat c.draw_by-drawn.new.seat c.retire-2.new.seat (g.P.Port.log c.args.port.now) s c.config.result.now c.in-Number.n c.in-Number.row c.config-2.result.now no.1
+    changed_turn t d c.args.seat.now c.find_by.new.seat c.draw_by-drawn.new.seat c.retire-2.new.seat (g.P.Port.shown c.args.port.now).log s c.config.result.now c.in-Number.n c.in-Number.row c.config-2.result.now no.1
     c.law_reads.ensures met number gone (sym c.judge.ensures ∙ c.in_default-judge.is) no.0 no.2
 
 pub returns-clause-read : goal.returns-clause-read
@@ -112,5 +112,5 @@ returns-clause-turned g c =
     numbered_by t c.find_by.new.seat c.draw_by-drawn.new.seat c.find_by.new.known c.draw_by-drawn.new.known s c.in-Number.n c.in-Number.row c.config-2.result.now (c.in-Number.ensures.draws (query d) c.in-Held.ensures.sees.saw.held)
     c.in-Number.ensures.seat c.config-2.ensures (c.in-Number.ensures.known.read (c.in-Held.ensures.known.read c.requires.read)) in
     let gone : LetGo t c.draw_by-drawn.new.seat c.retire-2.new.seat = record { come = c.retire-2.ensures.seat; nothing = c.retire-2.ensures.nothing; retired = c.retire-2.ensures.retired; answers = c.retire-2.ensures.answers } in
-    replied_turn t d c.args.seat.now c.find_by.new.seat c.draw_by-drawn.new.seat c.retire-2.new.seat (g.P.Port.log c.args.port.now) (g.P.Port.log c.reply.new.port) s c.config.result.now c.in-Number.n c.in-Number.row
+    replied_turn t d c.args.seat.now c.find_by.new.seat c.draw_by-drawn.new.seat c.retire-2.new.seat (g.P.Port.shown c.args.port.now).log (g.P.Port.shown c.reply.new.port).log s c.config.result.now c.in-Number.n c.in-Number.row
     c.config-2.result.now c.reply.result c.law_reads.ensures met number gone (sym c.judge.ensures ∙ c.in_default-judge.is) (c.reflects_still.ensures.yes c.if-not-reflects_still.false) c.reply.ensures.replies

@@ -20,13 +20,13 @@ pub returns-in-Ok-Nothing-clause-read : goal.returns-in-Ok-Nothing-clause-read
 returns-in-Ok-Nothing-clause-read g c = subst (λ (rows : Places). AreRead rows (worker_steps c.args.seat.now)) (sym c.recv.ensures.kept) c.requires.read
 
 pub returns-in-Ok-Nothing-clause-round : goal.returns-in-Ok-Nothing-clause-round
-returns-in-Ok-Nothing-clause-round g c = record { round = idle; kind = refl; works = record { gained = []; steps = refl; answers = refl; written = subst (λ (got : Got). Grows (g.P.Port.log c.args.port.now) (g.P.Port.log c.recv.new.port) (got_entry (received c.recv.new.self) got ∷ [])) c.in-Ok-Nothing.field-0-is c.in-Ok-Nothing.ensures.log; turned = λ config reads. (tt, tt) } }
+returns-in-Ok-Nothing-clause-round g c = record { round = idle; kind = refl; works = record { gained = []; steps = refl; answers = refl; written = subst (λ (got : Got). Grows (g.P.Port.shown c.args.port.now).log (g.P.Port.shown c.recv.new.port).log (got_entry (received c.recv.new.self) got ∷ [])) c.in-Ok-Nothing.field-0-is c.in-Ok-Nothing.ensures.log; turned = λ config reads. (tt, tt) } }
 
 pub returns-in-Ok-End-clause-read : goal.returns-in-Ok-End-clause-read
 returns-in-Ok-End-clause-read g c = subst (λ (rows : Places). AreRead rows (worker_steps c.args.seat.now)) (sym c.recv.ensures.kept) c.requires.read
 
 pub returns-in-Ok-End-clause-round : goal.returns-in-Ok-End-clause-round
-returns-in-Ok-End-clause-round g c = record { round = over; kind = refl; works = record { gained = []; steps = refl; answers = refl; written = subst (λ (got : Got). Grows (g.P.Port.log c.args.port.now) (g.P.Port.log c.recv.new.port) (got_entry (received c.recv.new.self) got ∷ [])) c.in-Ok-End.field-0-is c.in-Ok-End.ensures.log; turned = λ config reads. (tt, tt) } }
+returns-in-Ok-End-clause-round g c = record { round = over; kind = refl; works = record { gained = []; steps = refl; answers = refl; written = subst (λ (got : Got). Grows (g.P.Port.shown c.args.port.now).log (g.P.Port.shown c.recv.new.port).log (got_entry (received c.recv.new.self) got ∷ [])) c.in-Ok-End.field-0-is c.in-Ok-End.ensures.log; turned = λ config reads. (tt, tt) } }
 
 pub answer-outcome-requires-clause-read : goal.answer-outcome-requires-clause-read
 answer-outcome-requires-clause-read g c = subst (λ (rows : Places). AreRead rows (worker_steps c.args.seat.now)) (sym c.recv.ensures.kept) c.requires.read
@@ -34,8 +34,8 @@ answer-outcome-requires-clause-read g c = subst (λ (rows : Places). AreRead row
 pub returns-in-Ok-Datagram-clause-round : goal.returns-in-Ok-Datagram-clause-round
 returns-in-Ok-Datagram-clause-round g c =
     let meta = c.in-Ok-Datagram.meta in
-    let taken = subst (λ (got : Got). Grows (g.P.Port.log c.args.port.now) (g.P.Port.log c.recv.new.port) (got_entry (received c.recv.new.self) got ∷ [])) c.in-Ok-Datagram.field-0-is c.in-Ok-Datagram.ensures.log in
-    turned_round c.args.table.now c.args.locals.now meta (take meta.len (received c.recv.new.self)) c.args.seat.now c.answer-outcome.new.seat (g.P.Port.log c.args.port.now) (g.P.Port.log c.recv.new.port)
-    (g.P.Port.log c.answer-outcome.new.port) c.answer-outcome.result taken
-    (subst (λ (all : List ℕ). Turned c.args.table.now (arrived_at c.args.locals.now meta (take meta.len all)) c.args.seat.now c.answer-outcome.new.seat (g.P.Port.log c.recv.new.port) (g.P.Port.log c.answer-outcome.new.port) c.answer-outcome.result)
+    let taken = subst (λ (got : Got). Grows (g.P.Port.shown c.args.port.now).log (g.P.Port.shown c.recv.new.port).log (got_entry (received c.recv.new.self) got ∷ [])) c.in-Ok-Datagram.field-0-is c.in-Ok-Datagram.ensures.log in
+    turned_round c.args.table.now c.args.locals.now meta (take meta.len (received c.recv.new.self)) c.args.seat.now c.answer-outcome.new.seat (g.P.Port.shown c.args.port.now).log (g.P.Port.shown c.recv.new.port).log
+    (g.P.Port.shown c.answer-outcome.new.port).log c.answer-outcome.result taken
+    (subst (λ (all : List ℕ). Turned c.args.table.now (arrived_at c.args.locals.now meta (take meta.len all)) c.args.seat.now c.answer-outcome.new.seat (g.P.Port.shown c.recv.new.port).log (g.P.Port.shown c.answer-outcome.new.port).log c.answer-outcome.result)
     c.deref.ensures.value c.answer-outcome.ensures.turned)

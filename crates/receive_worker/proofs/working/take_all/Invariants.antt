@@ -16,10 +16,10 @@ invariant-rounds g l = record {
   nothing : HoldsNothing (worker_steps l.seat);
   retired : announced (worker_steps l.seat) ≡ None;
   read : AreRead (kept_rows l.buffers) (worker_steps l.seat);
-  bound : g.P.Port.bound l.port ≡ g.P.Port.bound l.fn.port;
-  made : g.P.Port.made l.port ≡ g.P.Port.made l.fn.port;
-  faults : RisesBy (l.tally.recv_fault + l.tally.send_fault) (g.P.Port.faults l.fn.port) (g.P.Port.faults l.port);
-  going : Going l.table l.locals l.limit l.turns l.fn.seat l.seat (g.P.Port.log l.fn.port) (g.P.Port.log l.port) l.tally l.calls l.failed;
+  bound : (g.P.Port.shown l.port).bound ≡ (g.P.Port.shown l.fn.port).bound;
+  made : (g.P.Port.shown l.port).made ≡ (g.P.Port.shown l.fn.port).made;
+  faults : RisesBy (l.tally.recv_fault + l.tally.send_fault) (g.P.Port.shown l.fn.port).faults (g.P.Port.shown l.port).faults;
+  going : Going l.table l.locals l.limit l.turns l.fn.seat l.seat (g.P.Port.shown l.fn.port).log (g.P.Port.shown l.port).log l.tally l.calls l.failed;
   room : AddsUp l.calls l.tally;
   range : l.calls < l.turns;
   short : l.failed ≤ l.calls;

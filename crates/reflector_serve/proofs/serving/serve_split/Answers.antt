@@ -2,7 +2,6 @@ use Rattle.std.proofs.Common.{rules, ◌≡◌, ℕ, List, [], length, map, drop
 use Rattle.session_world.specs.Sizes.{IsWithinLimits}
 use Rattle.session_rule.specs.Seats.{size_of}
 use Rattle.reflector_serve.specs.declared.post.Post.{Post}
-use Rattle.reflector_serve.specs.Ports.{port_view}
 use Rattle.reflector_serve.specs.Posts.{AreSeated, AreNumbered, AllWorked, lists_of}
 use Rattle.reflector_serve.specs.Phases.{Phase, JoinsAll}
 use Rattle.reflector_serve.specs.Served.{desk_view}
@@ -12,21 +11,21 @@ use Rattle.reflector_serve.proofs.serving.serve_split.Goals as goal
 pub join_all-requires-clause-seats : goal.join_all-requires-clause-seats
 join_all-requires-clause-seats g c =
     let mid = c.run_all-tally.new.posts in
-    let worked : AllWorked (port_view g.P.Port.log g.P.Port.coming g.P.Port.bound g.P.Port.made g.P.Port.faults) c.args.table.now c.args.conf.now c.args.ports.now c.run_all-tally.new.ports c.as_mut_slice.result.now mid = c.run_all-tally.ensures.workers in
+    let worked : AllWorked g.P.Port.shown c.args.table.now c.args.conf.now c.args.ports.now c.run_all-tally.new.ports c.as_mut_slice.result.now mid = c.run_all-tally.ensures.workers in
     let n : length mid ≡ c.args.posts.len = as_long _ _ _ _ _ _ mid worked ∙ (search rules) in
     subst (AreSeated c.args.table.now) (sym (whole c.args.posts.len mid _ n)) (seated_after _ _ _ _ _ _ mid worked)
 
 pub join_all-requires-clause-numbers : goal.join_all-requires-clause-numbers
 join_all-requires-clause-numbers g c =
     let mid = c.run_all-tally.new.posts in
-    let worked : AllWorked (port_view g.P.Port.log g.P.Port.coming g.P.Port.bound g.P.Port.made g.P.Port.faults) c.args.table.now c.args.conf.now c.args.ports.now c.run_all-tally.new.ports c.as_mut_slice.result.now mid = c.run_all-tally.ensures.workers in
+    let worked : AllWorked g.P.Port.shown c.args.table.now c.args.conf.now c.args.ports.now c.run_all-tally.new.ports c.as_mut_slice.result.now mid = c.run_all-tally.ensures.workers in
     let n : length mid ≡ c.args.posts.len = as_long _ _ _ _ _ _ mid worked ∙ (search rules) in
     let lent : c.as_mut_slice.result.now ≡ c.args.posts.items = search rules in
     subst (AreNumbered 1) (sym (whole c.args.posts.len mid _ n)) (numbered_after _ _ _ 1 _ _ _ mid worked (subst (AreNumbered 1) (sym lent) c.requires.numbers))
 
 pub returns : goal.returns
 returns g c = λ first base p.
-    let v = port_view g.P.Port.log g.P.Port.coming g.P.Port.bound g.P.Port.made g.P.Port.faults in
+    let v = g.P.Port.shown in
     let mid = c.run_all-tally.new.posts in
     let t = c.args.table.now in let conf = c.args.conf.now in
     let lent : c.as_mut_slice.result.now ≡ c.args.posts.items = search rules in

@@ -1,5 +1,5 @@
 use Rattle.std.proofs.Common.{rules, ◌<◌, ◌++◌, List, length, sym, subst}
-use Rattle.reflector_serve.specs.Ports.{port_view, OneFails}
+use Rattle.reflector_serve.specs.Ports.{OneFails}
 use Rattle.reflector_serve.specs.Served.{desk_view, AreQuiet}
 use Rattle.reflector_serve.proofs.WideFacts.{wide_quiet, wide_fails}
 use Rattle.reflector_serve.proofs.WholeFacts.{wide_ok}
@@ -7,18 +7,18 @@ use Rattle.reflector_serve.proofs.whole.serve.Goals as goal
 
 pub returns-clause-port_open : goal.returns-clause-port_open
 returns-clause-port_open g c = λ e.
-    let v = port_view g.P.Port.log g.P.Port.coming g.P.Port.bound g.P.Port.made g.P.Port.faults in
+    let v = g.P.Port.shown in
     let r = c.serve_at.ensures.port_open e in let split = c.split_at_mut-serving.ensures.value in
     let serving = c.split_at_mut-serving.result.0.now in let rest = c.split_at_mut-serving.result.1.now in let new = c.serve_at.new.ports in
     let some : 0 < length c.split_at_mut-serving.result.0.now = search rules in (
       subst (λ (xs : List _). AreQuiet v xs (new ++ rest)) (sym split) (wide_quiet v serving new rest some r.0),
-      subst (λ (xs : List _). OneFails g.P.Port.faults xs (new ++ rest)) (sym split) (wide_fails v serving new rest r.0 r.1),
+      subst (λ (xs : List _). OneFails g.P.Port.shown xs (new ++ rest)) (sym split) (wide_fails v serving new rest r.0 r.1),
       r.2,
     )
 
 pub returns-clause-desk_open : goal.returns-clause-desk_open
 returns-clause-desk_open g c = λ e.
-    let v = port_view g.P.Port.log g.P.Port.coming g.P.Port.bound g.P.Port.made g.P.Port.faults in
+    let v = g.P.Port.shown in
     let r = c.serve_at.ensures.desk_open e in let split = c.split_at_mut-serving.ensures.value in
     let serving = c.split_at_mut-serving.result.0.now in let rest = c.split_at_mut-serving.result.1.now in let new = c.serve_at.new.ports in
     let some : 0 < length c.split_at_mut-serving.result.0.now = search rules in
@@ -26,6 +26,6 @@ returns-clause-desk_open g c = λ e.
 
 pub returns-clause-served : goal.returns-clause-served
 returns-clause-served g c =
-    let v = port_view g.P.Port.log g.P.Port.coming g.P.Port.bound g.P.Port.made g.P.Port.faults in
+    let v = g.P.Port.shown in
     let w = desk_view g.D.Desk.log g.D.Desk.coming g.D.Desk.made g.D.Desk.faults in
     wide_ok v w c.args.conf.now c.args.ports.now c.split_at_mut-serving.result.0.now c.serve_at.new.ports c.split_at_mut-serving.result.1.now c.args.desk.now c.serve_at.new.desk c.serve_at.result c.split_at_mut-serving.ensures.value c.serve_at.ensures.served

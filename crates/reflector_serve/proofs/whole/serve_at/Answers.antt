@@ -3,7 +3,7 @@ use Rattle.refl_types.specs.declared.types.Endpoint.{Endpoint}
 use Rattle.net_io.specs.Log.{Grows}
 use Rattle.net_io.specs.Desk.{opened}
 use Rattle.session_desk.specs.Book.{steps_of}
-use Rattle.reflector_serve.specs.Ports.{port_view, IsBound, Each}
+use Rattle.reflector_serve.specs.Ports.{IsBound, Each}
 use Rattle.reflector_serve.specs.Phases.{Phase, SplitsOff}
 use Rattle.reflector_serve.specs.Served.{desk_view}
 use Rattle.reflector_serve.proofs.BeginFacts.{opened_phase}
@@ -18,7 +18,7 @@ split_all-requires-clause-opened g c = let b = c.open_sessions.new.book in
 
 pub returns-in_default-open_ports-clause-port_open : goal.returns-in_default-open_ports-clause-port_open
 returns-in_default-open_ports-clause-port_open g c = λ e.
-    let v = port_view g.P.Port.log g.P.Port.coming g.P.Port.bound g.P.Port.made g.P.Port.faults in let o = c.in_default-open_ports.ensures in (
+    let v = g.P.Port.shown in let o = c.in_default-open_ports.ensures in (
       record { moment = c.read_first-moment.result; quiet = all_quiet v c.read_first-moment.result c.args.ports.now c.read_first-moment.new.ports c.open_ports.new.ports c.read_first-moment.ensures o.idle },
       fails_since v c.read_first-moment.result c.args.ports.now c.read_first-moment.new.ports c.open_ports.new.ports c.read_first-moment.ensures o.cause,
       refl,
@@ -26,14 +26,14 @@ returns-in_default-open_ports-clause-port_open g c = λ e.
 
 pub returns-in_default-open-clause-desk_open : goal.returns-in_default-open-clause-desk_open
 returns-in_default-open-clause-desk_open g c = λ e.
-    let v = port_view g.P.Port.log g.P.Port.coming g.P.Port.bound g.P.Port.made g.P.Port.faults in let o = c.in_default-open.ensures in (
+    let v = g.P.Port.shown in let o = c.in_default-open.ensures in (
       record { moment = c.read_first-moment.result; quiet = all_quiet v c.read_first-moment.result c.args.ports.now c.read_first-moment.new.ports c.open_ports.new.ports c.read_first-moment.ensures c.in-Ok-open_ports.ensures.idle },
       record { log = o.log; coming = o.coming; made = o.made; faults = o.cause },
     )
 
 pub serve_split-requires-clause-ready : goal.serve_split-requires-clause-ready
 serve_split-requires-clause-ready g c κs within =
-    let v = port_view g.P.Port.log g.P.Port.coming g.P.Port.bound g.P.Port.made g.P.Port.faults in
+    let v = g.P.Port.shown in
     let each : Each (IsBound v c.args.conf.now.locals) c.read_first-moment.new.ports c.open_ports.new.ports =
     subst (λ (xs : List Endpoint). Each (IsBound v xs) c.read_first-moment.new.ports c.open_ports.new.ports) c.locals.ensures.value c.in-Ok-open_ports.ensures.bound in
     let many : c.split_all.new.posts.len ≡ length c.split_all.new.posts.items = search rules in
@@ -47,7 +47,7 @@ serve_split-requires-clause-book g c κs within = let b = c.open_sessions.new.bo
 
 pub returns-clause-served : goal.returns-clause-served
 returns-clause-served g c =
-    let v = port_view g.P.Port.log g.P.Port.coming g.P.Port.bound g.P.Port.made g.P.Port.faults in
+    let v = g.P.Port.shown in
     let w = desk_view g.D.Desk.log g.D.Desk.coming g.D.Desk.made g.D.Desk.faults in
     let t = c.in-Ok.table in let f = c.args.conf.now in let b = c.open_sessions.new.book in let moment = c.read_first-moment.result in
     let each : Each (IsBound v f.locals) c.read_first-moment.new.ports c.open_ports.new.ports =

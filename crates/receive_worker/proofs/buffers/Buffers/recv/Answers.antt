@@ -8,8 +8,8 @@ use Rattle.receive_worker.proofs.buffers.Buffers.recv.Goals as goal
 
 pub returns-clause-took : goal.returns-clause-took
 returns-clause-took g c =
-    let log = g.P.Port.log c.args.port.now in
-    let log' = g.P.Port.log c.recv.new.self in
+    let log = (g.P.Port.shown c.args.port.now).log in
+    let log' = (g.P.Port.shown c.recv.new.self).log in
     let input = c.args.self.now.input in
     let same : input.len ≡ length c.recv.new.buf = grind (arith, common_steps) in
     subst (λ (all : List _). (meta : Meta) → c.recv.result ≡ Ok (Datagram meta) → LastTook log' meta (take meta.len all))
