@@ -67,22 +67,22 @@ grows_none : {E : Type 0} (l : Option (List E)) → Grows l l []
 grows_none None = tt
 grows_none (Some l) = sym (append-nil l)
 
-pub log_grows : {S D : Type 0} {goes : D → DeskEntry → D → Type 0} (acts : List Act) (d d' : DeskView S D goes) → ShowsAll acts d d' → Grows d.log d'.log (entries_in acts)
-log_grows {S} {D} {goes} [] d d' h = subst (λ (m : DeskView S D goes). Grows d.log m.log []) (sym h) (grows_none d.log)
-log_grows (noted e ∷ acts) d d' h = grows_then d.log (h.0).log d'.log (e ∷ []) (entries_in acts) (h.1).log (log_grows acts h.0 d' h.2)
+pub log_grows : {S D : Type 0} {goes : D → DeskEntry → D → Type 0} (acts : List Act) (d d' : DeskView S D goes) → ShowsAll acts d d' → Grows d.shown.log d'.shown.log (entries_in acts)
+log_grows {S} {D} {goes} [] d d' h = subst (λ (m : DeskView S D goes). Grows d.shown.log m.shown.log []) (sym h) (grows_none d.shown.log)
+log_grows (noted e ∷ acts) d d' h = grows_then d.shown.log (h.0).shown.log d'.shown.log (e ∷ []) (entries_in acts) (h.1).log (log_grows acts h.0 d' h.2)
 log_grows (called call ∷ acts) d d' h = log_grows acts d d' h
 
-open_stays : {S D : Type 0} {goes : D → DeskEntry → D → Type 0} (acts : List Act) (d d' : DeskView S D goes) → ShowsAll acts d d' → d'.is_open ≡ d.is_open
-open_stays {S} {D} {goes} [] d d' h = ap (λ (m : DeskView S D goes). m.is_open) h
+open_stays : {S D : Type 0} {goes : D → DeskEntry → D → Type 0} (acts : List Act) (d d' : DeskView S D goes) → ShowsAll acts d d' → d'.shown.is_open ≡ d.shown.is_open
+open_stays {S} {D} {goes} [] d d' h = ap (λ (m : DeskView S D goes). m.shown.is_open) h
 open_stays (noted e ∷ acts) d d' h = open_stays acts h.0 d' h.2 ∙ (h.1).is_open
 open_stays (called call ∷ acts) d d' h = open_stays acts d d' h
 
-pub made_stays : {S D : Type 0} {goes : D → DeskEntry → D → Type 0} (acts : List Act) (d d' : DeskView S D goes) → ShowsAll acts d d' → d'.made ≡ d.made
-made_stays {S} {D} {goes} [] d d' h = ap (λ (m : DeskView S D goes). m.made) h
+pub made_stays : {S D : Type 0} {goes : D → DeskEntry → D → Type 0} (acts : List Act) (d d' : DeskView S D goes) → ShowsAll acts d d' → d'.shown.made ≡ d.shown.made
+made_stays {S} {D} {goes} [] d d' h = ap (λ (m : DeskView S D goes). m.shown.made) h
 made_stays (noted e ∷ acts) d d' h = made_stays acts h.0 d' h.2 ∙ (h.1).made
 made_stays (called call ∷ acts) d d' h = made_stays acts d d' h
 
-pub open_after : {S D : Type 0} {goes : D → DeskEntry → D → Type 0} {t : Table} {p q : Plan} {d d' : DeskView S D goes} {b b' : Book} {n n' : Counts} → Follows t p q d d' b b' n n' → IsTrue d.is_open → IsTrue d'.is_open
+pub open_after : {S D : Type 0} {goes : D → DeskEntry → D → Type 0} {t : Table} {p q : Plan} {d d' : DeskView S D goes} {b b' : Book} {n n' : Counts} → Follows t p q d d' b b' n n' → IsTrue d.shown.is_open → IsTrue d'.shown.is_open
 open_after {d = d} {d'} f h = subst (λ (o : Bool). IsTrue o) (sym (open_stays f.acts d d' f.shown)) h
 
 -- ---- faults
@@ -117,20 +117,20 @@ rises_more old mid new k (inr e) h = omega (arith, e.0, e.1, h)
 same_more : (old mid new k : ℕ) → mid ≡ old → min (mid + k) (2 ^ 64 - 1) ≤ new → min (old + k) (2 ^ 64 - 1) ≤ new
 same_more old mid new k e h = subst (λ (m : ℕ). min (m + k) (2 ^ 64 - 1) ≤ new) e h
 
-faults_rise : {S D : Type 0} {goes : D → DeskEntry → D → Type 0} (acts : List Act) (d d' : DeskView S D goes) → ShowsAll acts d d' → min (d.faults + failures acts) (2 ^ 64 - 1) ≤ d'.faults
-faults_rise {S} {D} {goes} [] d d' h = let e : d'.faults ≡ d.faults = ap (λ (m : DeskView S D goes). m.faults) h in omega (arith, e)
-faults_rise (noted next_failed ∷ acts) d d' h = rises_more d.faults (h.0).faults d'.faults (failures acts) (h.1).faults (faults_rise acts h.0 d' h.2)
-faults_rise (noted (send_failed n o) ∷ acts) d d' h = rises_more d.faults (h.0).faults d'.faults (failures acts) (h.1).faults (faults_rise acts h.0 d' h.2)
-faults_rise (noted (opened c o) ∷ acts) d d' h = same_more d.faults (h.0).faults d'.faults (failures acts) (h.1).faults (faults_rise acts h.0 d' h.2)
-faults_rise (noted open_failed ∷ acts) d d' h = same_more d.faults (h.0).faults d'.faults (failures acts) (h.1).faults (faults_rise acts h.0 d' h.2)
-faults_rise (noted (gave t o) ∷ acts) d d' h = same_more d.faults (h.0).faults d'.faults (failures acts) (h.1).faults (faults_rise acts h.0 d' h.2)
-faults_rise (noted (sent n o) ∷ acts) d d' h = same_more d.faults (h.0).faults d'.faults (failures acts) (h.1).faults (faults_rise acts h.0 d' h.2)
-faults_rise (noted (hung_up n) ∷ acts) d d' h = same_more d.faults (h.0).faults d'.faults (failures acts) (h.1).faults (faults_rise acts h.0 d' h.2)
-faults_rise (noted finished ∷ acts) d d' h = same_more d.faults (h.0).faults d'.faults (failures acts) (h.1).faults (faults_rise acts h.0 d' h.2)
+faults_rise : {S D : Type 0} {goes : D → DeskEntry → D → Type 0} (acts : List Act) (d d' : DeskView S D goes) → ShowsAll acts d d' → min (d.shown.faults + failures acts) (2 ^ 64 - 1) ≤ d'.shown.faults
+faults_rise {S} {D} {goes} [] d d' h = let e : d'.shown.faults ≡ d.shown.faults = ap (λ (m : DeskView S D goes). m.shown.faults) h in omega (arith, e)
+faults_rise (noted next_failed ∷ acts) d d' h = rises_more d.shown.faults (h.0).shown.faults d'.shown.faults (failures acts) (h.1).faults (faults_rise acts h.0 d' h.2)
+faults_rise (noted (send_failed n o) ∷ acts) d d' h = rises_more d.shown.faults (h.0).shown.faults d'.shown.faults (failures acts) (h.1).faults (faults_rise acts h.0 d' h.2)
+faults_rise (noted (opened c o) ∷ acts) d d' h = same_more d.shown.faults (h.0).shown.faults d'.shown.faults (failures acts) (h.1).faults (faults_rise acts h.0 d' h.2)
+faults_rise (noted open_failed ∷ acts) d d' h = same_more d.shown.faults (h.0).shown.faults d'.shown.faults (failures acts) (h.1).faults (faults_rise acts h.0 d' h.2)
+faults_rise (noted (gave t o) ∷ acts) d d' h = same_more d.shown.faults (h.0).shown.faults d'.shown.faults (failures acts) (h.1).faults (faults_rise acts h.0 d' h.2)
+faults_rise (noted (sent n o) ∷ acts) d d' h = same_more d.shown.faults (h.0).shown.faults d'.shown.faults (failures acts) (h.1).faults (faults_rise acts h.0 d' h.2)
+faults_rise (noted (hung_up n) ∷ acts) d d' h = same_more d.shown.faults (h.0).shown.faults d'.shown.faults (failures acts) (h.1).faults (faults_rise acts h.0 d' h.2)
+faults_rise (noted finished ∷ acts) d d' h = same_more d.shown.faults (h.0).shown.faults d'.shown.faults (failures acts) (h.1).faults (faults_rise acts h.0 d' h.2)
 faults_rise (called call ∷ acts) d d' h = faults_rise acts d d' h
 
-faults_stay : {S D : Type 0} {goes : D → DeskEntry → D → Type 0} (acts : List Act) (d d' : DeskView S D goes) → ShowsAll acts d d' → failures acts ≡ 0 → d'.faults ≡ d.faults
-faults_stay {S} {D} {goes} [] d d' h z = ap (λ (m : DeskView S D goes). m.faults) h
+faults_stay : {S D : Type 0} {goes : D → DeskEntry → D → Type 0} (acts : List Act) (d d' : DeskView S D goes) → ShowsAll acts d d' → failures acts ≡ 0 → d'.shown.faults ≡ d.shown.faults
+faults_stay {S} {D} {goes} [] d d' h z = ap (λ (m : DeskView S D goes). m.shown.faults) h
 faults_stay (noted next_failed ∷ acts) d d' h z = absurd (omega (arith, z))
 faults_stay (noted (send_failed n o) ∷ acts) d d' h z = absurd (omega (arith, z))
 faults_stay (noted (opened c o) ∷ acts) d d' h z = faults_stay acts h.0 d' h.2 z ∙ (h.1).faults
@@ -170,7 +170,7 @@ no_failures : (acts : List Act) (n : Counts) → (counts_after n acts).faults �
 no_failures acts n z zero e = refl
 no_failures acts n z (suc k) e = let some : 0 < (counts_after n acts).faults = counted_some acts n (omega (arith, e)) in absurd (omega (arith, some, z))
 
-pub faults_told : {S D : Type 0} {goes : D → DeskEntry → D → Type 0} (acts : List Act) (d d' : DeskView S D goes) (n : Counts) → n.faults ≡ 0 → ShowsAll acts d d' → AreFaultsTold d.faults d'.faults (counts_after n acts).faults
+pub faults_told : {S D : Type 0} {goes : D → DeskEntry → D → Type 0} (acts : List Act) (d d' : DeskView S D goes) (n : Counts) → n.faults ≡ 0 → ShowsAll acts d d' → AreFaultsTold d.shown.faults d'.shown.faults (counts_after n acts).faults
 faults_told acts d d' n z h = record {
   rises = omega (arith, faults_rise acts d d' h, counted_few acts n, z);
   stays = λ e. faults_stay acts d d' h (no_failures acts n e (failures acts) refl);

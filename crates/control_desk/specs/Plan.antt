@@ -1,5 +1,5 @@
 -- Plans: what the desk does next, given how what it did so far came out (this project's own). And when a plan was followed.
-use Rattle.std.specs.Prelude.{◌≡◌, ℕ, ◌+◌, ◌-◌, ◌^◌, min, Bool, List, [], ◌∷◌, ◌++◌, take, Option, Some, None, Result, Ok}
+use Rattle.std.specs.Prelude.{◌≡◌, ℕ, ◌+◌, ◌-◌, ◌^◌, min, List, [], ◌∷◌, ◌++◌, take, Option, Some, None, Result, Ok}
 use Rattle.refl_types.specs.declared.types.Key.{Key}
 use Rattle.refl_types.specs.declared.types.Extra.{Extra}
 use Rattle.refl_types.specs.declared.config.ConfigParts.{ConfigParts}
@@ -7,6 +7,7 @@ use Rattle.refl_types.specs.declared.outcome.Place.{Place}
 use Rattle.port_io.specs.Outside.{Rises}
 use Rattle.net_io.specs.declared.desk.Timed.{Timed}
 use Rattle.net_io.specs.Log.{Grows}
+use Rattle.net_io.specs.DeskShown.{DeskShown}
 use Rattle.net_io.specs.Desk.{DeskEntry, octet_count, gave, next_failed, sent, send_failed, hung_up}
 use Rattle.session_rule.specs.declared.seats.Table.{Table}
 use Rattle.session_desk.specs.declared.session.NoSuch.{NoSuch}
@@ -113,12 +114,8 @@ counts_after n (a ∷ acts) = counts_after (counts_with n a) acts
 pub record DeskView (S D : Type 0) (goes : D → DeskEntry → D → Type 0) : Type 0 where
   -- itself
   pub it : D
-  pub is_open : Bool
-  -- what it was made with
-  pub made : S
-  pub log : Option (List DeskEntry)
-  -- how often it has failed
-  pub faults : ℕ
+  -- what it shows of itself
+  pub shown : DeskShown S
 
 -- its count of faults rises with each failure of a run, and stays otherwise
 abbrev pub Fails : DeskEntry → ℕ → ℕ → Type 0
@@ -129,10 +126,10 @@ Fails _ old new = new ≡ old
 -- the desk goes on by an entry
 pub record Shows {S D : Type 0} {goes : D → DeskEntry → D → Type 0} (e : DeskEntry) (d d' : DeskView S D goes) : Type 0 where
   pub went : goes d.it e d'.it
-  pub is_open : d'.is_open ≡ d.is_open
-  pub made : d'.made ≡ d.made
-  pub log : Grows d.log d'.log (e ∷ [])
-  pub faults : Fails e d.faults d'.faults
+  pub is_open : d'.shown.is_open ≡ d.shown.is_open
+  pub made : d'.shown.made ≡ d.shown.made
+  pub log : Grows d.shown.log d'.shown.log (e ∷ [])
+  pub faults : Fails e d.shown.faults d'.shown.faults
 
 -- and by all entries, one after the other
 abbrev pub ShowsAll : {S D : Type 0} {goes : D → DeskEntry → D → Type 0} → List Act → DeskView S D goes → DeskView S D goes → Type 0
@@ -151,8 +148,8 @@ pub record Follows {S D : Type 0} {goes : D → DeskEntry → D → Type 0} (t :
 
 -- ---- what a desk shows, and how a plan goes on behind an event
 
-abbrev pub view_of : {S D : Type 0} {goes : D → DeskEntry → D → Type 0} → D → Bool → S → Option (List DeskEntry) → ℕ → DeskView S D goes
-view_of it is_open made log faults = record { it = it; is_open = is_open; made = made; log = log; faults = faults }
+abbrev pub view_of : {S D : Type 0} {goes : D → DeskEntry → D → Type 0} → D → DeskShown S → DeskView S D goes
+view_of it shown = record { it = it; shown = shown }
 
 abbrev pub heard_plan : (Timed → List ℕ → Plan) → Plan → List ℕ → Option Timed → Plan
 heard_plan given failed buf None = failed

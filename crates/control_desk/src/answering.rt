@@ -20,7 +20,7 @@ pub(crate) fn send_line<D: Shown>(
     line: &Answer,
 ) -> bool
     ensures { (t : Table) (ok failed : Plan) (b : Book) →
-        Follows t (send conn (answer_text line.now) ok failed) (if result then ok else failed) (D.shown desk.old) (D.shown desk.new) b b counts.old counts.new }
+        Follows t (send conn (answer_text line.now) ok failed) (if result then ok else failed) (D.seen desk.old) (D.seen desk.new) b b counts.old counts.new }
 {
     let mut out = [0; 512];
     let len = write_answer(line, &mut out);
@@ -35,7 +35,7 @@ pub(crate) fn answer<D: Shown>(
     line: &Answer,
 ) -> Verdict
     ensures { (t : Table) (s : DeskState) (next : Next) (b : Book) →
-        Follows t (say conn line.now s next) (next result (settled result conn s)) (D.shown desk.old) (D.shown desk.new) b b counts.old counts.new }
+        Follows t (say conn line.now s next) (next result (settled result conn s)) (D.seen desk.old) (D.seen desk.new) b b counts.old counts.new }
 {
     if send_line(desk, counts, conn, line) {
         return Verdict::GoesOn;

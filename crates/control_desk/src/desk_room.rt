@@ -73,13 +73,13 @@ pub fn run_desk<D: Desk>(
     desk: &mut D,
     turns: u64,
 ) -> DeskTally
-    requires open { IsTrue (D.is_open desk.old) }
+    requires open { IsTrue (D.shown desk.old).is_open }
     requires book { IsBookOf table.now book.old }
-    ensures run { HasRun table.now room.old.setting turns room.old.state (D.log desk.old) (D.log desk.new) book.old book.new result }
+    ensures run { HasRun table.now room.old.setting turns room.old.state (D.shown desk.old).log (D.shown desk.new).log book.old book.new result }
     ensures gone { HasGone D.goes table.now room.old.setting turns room.old.state desk.old desk.new book.old book.new result }
     ensures went { DeskWent table.now book.old book.new }
-    ensures faults { AreFaultsTold (D.faults desk.old) (D.faults desk.new) result.faults }
-    ensures made { D.made desk.new ≡ D.made desk.old }
+    ensures faults { AreFaultsTold (D.shown desk.old).faults (D.shown desk.new).faults result.faults }
+    ensures made { (D.shown desk.new).made ≡ (D.shown desk.old).made }
     ensures book { IsBookOf table.now book.new }
 {
     law_calls_go_on();

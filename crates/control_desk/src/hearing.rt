@@ -40,7 +40,7 @@ pub(crate) fn hear_opened<D: Shown>(
     caller: &Caller,
 )
     ensures { (f : Setting) (t : Table) (next : DeskState → Plan) (b : Book) → f.twamp ≡ twamp.now →
-        Follows t (opened_plan f (state_of places.old) heard.conn heard.now caller.now.kind caller.now.peer caller.now.local next (side_in places.old.connections.items heard.conn)) (next (state_of places.new)) (D.shown desk.old) (D.shown desk.new) b b counts.old counts.new }
+        Follows t (opened_plan f (state_of places.old) heard.conn heard.now caller.now.kind caller.now.peer caller.now.local next (side_in places.old.connections.items heard.conn)) (next (state_of places.new)) (D.seen desk.old) (D.seen desk.new) b b counts.old counts.new }
 {
     if places.has(heard.conn) {
         return;
@@ -65,7 +65,7 @@ fn greet_client<D: Shown>(
 )
     requires { length places.old.connections.items < 32 }
     ensures { (t : Table) (next : DeskState → Plan) (b : Book) →
-        Follows t (greet (state_of places.old) heard.conn heard.now caller.now.peer caller.now.local next ConnKind.Control) (next (state_of places.new)) (D.shown desk.old) (D.shown desk.new) b b counts.old counts.new }
+        Follows t (greet (state_of places.old) heard.conn heard.now caller.now.peer caller.now.local next ConnKind.Control) (next (state_of places.new)) (D.seen desk.old) (D.seen desk.new) b b counts.old counts.new }
 {
     let mut out = [0; 64];
     write_greeting(&mut out);
@@ -96,7 +96,7 @@ fn hear_side<D: Shown>(
     ensures same { AreSame hands.old hands.new }
     ensures book { IsBookOf hands.new.table.now hands.new.book.now }
     ensures done { (s : DeskState) (next : Next) →
-        Works D.shown (bytes_plan setting.now (at_names s names.old) heard.conn heard.now octets.now next (Some side.old)) (next result (settled_side result heard.conn side.new (at_names s names.new))) hands.old hands.new }
+        Works D.seen (bytes_plan setting.now (at_names s names.old) heard.conn heard.now octets.now next (Some side.old)) (next result (settled_side result heard.conn side.new (at_names s names.new))) hands.old hands.new }
 {
     match side {
         Side::Operator(line) => hear_operator(setting, names, hands, heard, line, octets),
@@ -121,7 +121,7 @@ pub(crate) fn hear_bytes<D: Shown>(
     ensures same { AreSame hands.old hands.new }
     ensures book { IsBookOf hands.new.table.now hands.new.book.now }
     ensures done { (more : DeskState → Plan) →
-        Works D.shown (bytes_plan setting.now (state_of places.old) heard.conn heard.now octets.now (behind_event more) (side_in places.old.connections.items heard.conn)) (behind_event more result (state_of places.new)) hands.old hands.new }
+        Works D.seen (bytes_plan setting.now (state_of places.old) heard.conn heard.now octets.now (behind_event more) (side_in places.old.connections.items heard.conn)) (behind_event more result (state_of places.new)) hands.old hands.new }
 {
     let Some(at) = index_of(&places.connections, heard.conn) else {
         return Verdict::GoesOn;

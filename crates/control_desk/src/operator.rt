@@ -47,7 +47,7 @@ fn close_line<D: Shown>(hands: &mut Hands<D>, conn: u32, key: &Key) -> Verdict
     ensures same { AreSame hands.old hands.new }
     ensures book { IsBookOf hands.new.table.now hands.new.book.now }
     ensures done { (s : DeskState) (next : Next) →
-        Works D.shown (close key.now (number_plan conn s next)) (next result (settled result conn s)) hands.old hands.new }
+        Works D.seen (close key.now (number_plan conn s next)) (next result (settled result conn s)) hands.old hands.new }
 {
     match hands.book.close(hands.table, key) {
         Ok(number) => {
@@ -69,7 +69,7 @@ fn count_line<D: Shown>(hands: &mut Hands<D>, conn: u32, key: &Key) -> Verdict
     ensures same { AreSame hands.old hands.new }
     ensures book { IsBookOf hands.new.table.now hands.new.book.now }
     ensures done { (s : DeskState) (next : Next) →
-        Works D.shown (count key.now (number_plan conn s next)) (next result (settled result conn s)) hands.old hands.new }
+        Works D.seen (count key.now (number_plan conn s next)) (next result (settled result conn s)) hands.old hands.new }
 {
     match hands.book.count(hands.table, key) {
         Ok(number) => answer(hands.desk, hands.counts, conn, &Answer::Number(number)),
@@ -106,7 +106,7 @@ fn config_line<D: Shown>(
     octets: &[u8; 76],
 ) -> Verdict
     ensures { (s : DeskState) (next : Next) (t : Table) (b : Book) →
-        Follows t (name_config conn (at_names s names.old) name.now (config_from octets.now) next) (next result (settled result conn (at_names s names.new))) (D.shown desk.old) (D.shown desk.new) b b counts.old counts.new }
+        Follows t (name_config conn (at_names s names.old) name.now (config_from octets.now) next) (next result (settled result conn (at_names s names.new))) (D.seen desk.old) (D.seen desk.new) b b counts.old counts.new }
 {
     let Some(config) = read_config(octets) else {
         return answer(desk, counts, conn, &Answer::Refused(Refusal::Config));
@@ -157,7 +157,7 @@ fn open_under<D: Shown>(
     ensures same { AreSame hands.old hands.new }
     ensures book { IsBookOf hands.new.table.now hands.new.book.now }
     ensures done { (s : DeskState) (next : Next) →
-        Works D.shown (reserve key.now no_extra config.now wait (reserved_plan heard.conn heard.now s next)) (next result (settled result heard.conn s)) hands.old hands.new }
+        Works D.seen (reserve key.now no_extra config.now wait (reserved_plan heard.conn heard.now s next)) (next result (settled result heard.conn s)) hands.old hands.new }
 {
     let extra = Extra {
         symmetrical: false,
@@ -201,7 +201,7 @@ fn open_line<D: Shown>(
     ensures same { AreSame hands.old hands.new }
     ensures book { IsBookOf hands.new.table.now hands.new.book.now }
     ensures done { (s : DeskState) (next : Next) →
-        Works D.shown (open_plan setting.now heard.conn heard.now (at_names s names.now) opening.now.key.now opening.now.name.now opening.now.wait next) (next result (settled result heard.conn (at_names s names.now))) hands.old hands.new }
+        Works D.seen (open_plan setting.now heard.conn heard.now (at_names s names.now) opening.now.key.now opening.now.name.now opening.now.wait next) (next result (settled result heard.conn (at_names s names.now))) hands.old hands.new }
 {
     if opening.key.local as usize >= setting.locals().len() {
         return answer(
@@ -245,7 +245,7 @@ fn set_line<D: Shown>(
     ensures same { AreSame hands.old hands.new }
     ensures book { IsBookOf hands.new.table.now hands.new.book.now }
     ensures done { (s : DeskState) (next : Next) →
-        Works D.shown (set_under conn (at_names s names.now) key.now next (config_in names.now name.now)) (next result (settled result conn (at_names s names.now))) hands.old hands.new }
+        Works D.seen (set_under conn (at_names s names.now) key.now next (config_in names.now name.now)) (next result (settled result conn (at_names s names.now))) hands.old hands.new }
 {
     let Some(config) = names.find(name) else {
         return answer(
@@ -270,7 +270,7 @@ fn list_one<D: Shown>(hands: &mut Hands<D>, conn: u32, index: u32) -> bool
     ensures same { AreSame hands.old hands.new }
     ensures book { IsBookOf hands.new.table.now hands.new.book.now }
     ensures done { (s : DeskState) (next : Next) (more : Plan) →
-        Works D.shown (live_at index (list_key conn s next more)) (if result then more else next Over (without s conn)) hands.old hands.new }
+        Works D.seen (live_at index (list_key conn s next more)) (if result then more else next Over (without s conn)) hands.old hands.new }
 {
     let Some(key) = hands.book.live_at(index) else {
         return true;
@@ -296,7 +296,7 @@ fn list_line<D: Shown>(hands: &mut Hands<D>, conn: u32) -> Verdict
     ensures same { AreSame hands.old hands.new }
     ensures book { IsBookOf hands.new.table.now hands.new.book.now }
     ensures done { (s : DeskState) (next : Next) →
-        Works D.shown (live_len (λ all. list_from conn s next all 0 all)) (next result (settled result conn s)) hands.old hands.new }
+        Works D.seen (live_len (λ all. list_from conn s next all 0 all)) (next result (settled result conn s)) hands.old hands.new }
 {
     let all = hands.book.live_len();
     let mut index = 0;
@@ -313,7 +313,7 @@ fn list_line<D: Shown>(hands: &mut Hands<D>, conn: u32) -> Verdict
 fn quit_line<D: Shown>(desk: &mut D, counts: &mut Counts, conn: u32) -> Verdict
     ensures quits { result ≡ Verdict.Quits }
     ensures done { (s : DeskState) (next : Next) (t : Table) (b : Book) →
-        Follows t (quit_plan conn s next) (next Quits s) (D.shown desk.old) (D.shown desk.new) b b counts.old counts.new }
+        Follows t (quit_plan conn s next) (next Quits s) (D.seen desk.old) (D.seen desk.new) b b counts.old counts.new }
 {
     if !send_line(desk, counts, conn, &Answer::Bye) {
         desk.drop_line(conn);
@@ -334,7 +334,7 @@ fn do_line<D: Shown>(
     ensures same { AreSame hands.old hands.new }
     ensures book { IsBookOf hands.new.table.now hands.new.book.now }
     ensures done { (s : DeskState) (next : Next) →
-        Works D.shown (line_plan setting.now heard.conn heard.now (at_names s names.old) next line.now) (next result (settled result heard.conn (at_names s names.new))) hands.old hands.new }
+        Works D.seen (line_plan setting.now heard.conn heard.now (at_names s names.old) next line.now) (next result (settled result heard.conn (at_names s names.new))) hands.old hands.new }
 {
     match line {
         Line::Config { name, octets } => {
@@ -368,7 +368,7 @@ pub(crate) fn hear_line<D: Shown>(
     ensures same { AreSame hands.old hands.new }
     ensures book { IsBookOf hands.new.table.now hands.new.book.now }
     ensures done { (s : DeskState) (next : Next) →
-        Works D.shown (read_plan setting.now heard.conn heard.now (at_names s names.old) next (line_from octets.now)) (next result (settled result heard.conn (at_names s names.new))) hands.old hands.new }
+        Works D.seen (read_plan setting.now heard.conn heard.now (at_names s names.old) next (line_from octets.now)) (next result (settled result heard.conn (at_names s names.new))) hands.old hands.new }
 {
     match read_line(octets) {
         Ok(line) => do_line(setting, names, hands, heard, &line),

@@ -189,7 +189,7 @@ pub(crate) fn hang_up_control<D: Shown>(
     ensures same { AreSame hands.old hands.new }
     ensures book { IsBookOf hands.new.table.now hands.new.book.now }
     ensures done { (gone : Plan) →
-        Works D.shown (hang_up_plan conn stage own.now gone) gone hands.old hands.new }
+        Works D.seen (hang_up_plan conn stage own.now gone) gone hands.old hands.new }
 {
     hands.desk.drop_line(conn);
     end_sessions::<D>(hands.table, hands.book, hands.counts, stage, own);

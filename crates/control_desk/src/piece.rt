@@ -31,7 +31,7 @@ fn hear_octet<D: Shown>(
     ensures same { AreSame hands.old hands.new }
     ensures book { IsBookOf hands.new.table.now hands.new.book.now }
     ensures done { (s : DeskState) (next : Next) (rest : List ℕ) →
-        Works D.shown (operator_plan setting.now heard.conn heard.now (at_names s names.old) next line.old (octet ∷ rest)) (behind_octet setting.now heard.conn heard.now next line.new rest result (at_names s names.new)) hands.old hands.new }
+        Works D.seen (operator_plan setting.now heard.conn heard.now (at_names s names.old) next line.old (octet ∷ rest)) (behind_octet setting.now heard.conn heard.now next line.new rest result (at_names s names.new)) hands.old hands.new }
 {
     if line.is_full() {
         let _sent = send_line(
@@ -65,7 +65,7 @@ pub(crate) fn hear_operator<D: Shown>(
     ensures same { AreSame hands.old hands.new }
     ensures book { IsBookOf hands.new.table.now hands.new.book.now }
     ensures done { (s : DeskState) (next : Next) →
-        Works D.shown (operator_plan setting.now heard.conn heard.now (at_names s names.old) next line.old octets.now) (next result (settled_piece result heard.conn line.new (at_names s names.new))) hands.old hands.new }
+        Works D.seen (operator_plan setting.now heard.conn heard.now (at_names s names.old) next line.old octets.now) (next result (settled_piece result heard.conn line.new (at_names s names.new))) hands.old hands.new }
 {
     for octet in octets {
         match hear_octet(setting, names, hands, heard, line, *octet) {

@@ -35,7 +35,7 @@ fn hear_event<D: Shown>(
     ensures same { AreSame hands.old hands.new }
     ensures book { IsBookOf hands.new.table.now hands.new.book.now }
     ensures done { (more : DeskState → Plan) →
-        Works D.shown (event_plan setting.now (state_of places.old) timed.now.moment (take (octet_count timed.now.event) piece.now) (behind_event more) timed.now.event) (behind_event more result (state_of places.new)) hands.old hands.new }
+        Works D.seen (event_plan setting.now (state_of places.old) timed.now.moment (take (octet_count timed.now.event) piece.now) (behind_event more) timed.now.event) (behind_event more result (state_of places.new)) hands.old hands.new }
 {
     let now = timed.moment;
     match timed.event {
@@ -99,10 +99,10 @@ pub(crate) fn hear_all<D: Shown>(
     turns: u64,
 ) -> DeskEnd
     requires book { IsBookOf hands.old.table.now hands.old.book.now }
-    requires open { IsTrue (D.shown hands.old.desk.now).is_open }
+    requires open { IsTrue (D.seen hands.old.desk.now).shown.is_open }
     ensures same { AreSame hands.old hands.new }
     ensures book { IsBookOf hands.new.table.now hands.new.book.now }
-    ensures done { Works D.shown (desk_plan setting.now turns 0 (state_of places.old)) (stop result) hands.old hands.new }
+    ensures done { Works D.seen (desk_plan setting.now turns 0 (state_of places.old)) (stop result) hands.old hands.new }
 {
     let mut piece = [0; PIECE_ROOM];
     let mut left = turns;

@@ -15,25 +15,25 @@ pub trait Shown: Desk {
 
     // How it goes on by an entry of its log.
     ghost steps: { Self → DeskEntry → Self → Type 0 };
-    // What it shows of itself.
-    ghost shown: { Self → DeskView Self.Setup Self steps };
+    // Itself, and what it shows of itself.
+    ghost seen: { Self → DeskView Self.Setup Self steps };
 
     /// Waits for the next event, and counts it or the failure. The octets that come with it stand at the front of the buffer.
     fn take_event(&mut self, counts: &mut Counts, buf: &mut [u8; PIECE_ROOM]) -> Option<Timed>
-        requires { IsTrue (shown self.old).is_open }
+        requires { IsTrue (seen self.old).shown.is_open }
         ensures len { IfSome result (λ t. octet_count t.event ≤ 4096) }
         ensures done { (t : Table) (given : Timed → List ℕ → Plan) (failed : Plan) (b : Book) →
-            Follows t (hear given failed) (heard_plan given failed buf.new result) (shown self.old) (shown self.new) b b counts.old counts.new };
+            Follows t (hear given failed) (heard_plan given failed buf.new result) (seen self.old) (seen self.new) b b counts.old counts.new };
 
     /// Sends octets on a connection, and says whether they were sent. A failure is counted.
     fn tell(&mut self, counts: &mut Counts, conn: u32, octets: &[u8]) -> bool
         ensures { (t : Table) (ok failed : Plan) (b : Book) →
-            Follows t (send conn octets.now ok failed) (if result then ok else failed) (shown self.old) (shown self.new) b b counts.old counts.new };
+            Follows t (send conn octets.now ok failed) (if result then ok else failed) (seen self.old) (seen self.new) b b counts.old counts.new };
 
     /// Hangs a connection up.
     fn drop_line(&mut self, conn: u32)
         ensures { (t : Table) (next : Plan) (b : Book) (n : declared.Counts) →
-            Follows t (hang_up conn next) next (shown self.old) (shown self.new) b b n n };
+            Follows t (hang_up conn next) next (seen self.old) (seen self.new) b b n n };
 }
 
 impl<D: Desk> Shown for D {
@@ -47,7 +47,7 @@ impl<D: Desk> Shown for D {
 
     ghost steps = { D.goes };
 
-    ghost shown = { λ d. view_of d (D.is_open d) (D.made d) (D.log d) (D.faults d) };
+    ghost seen = { λ d. view_of d (D.shown d) };
 
     fn take_event(&mut self, counts: &mut Counts, buf: &mut [u8; PIECE_ROOM]) -> Option<Timed> {
         match self.next(buf) {

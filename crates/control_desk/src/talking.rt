@@ -24,7 +24,7 @@ use twamp_control::{Ask, DeskAnswer, Message, Stage};
 /// Sends octets, if there are any. Whether they were sent.
 fn send_some<D: Shown>(desk: &mut D, counts: &mut Counts, conn: u32, octets: &[u8]) -> bool
     ensures { (t : Table) (sent failed : Plan) (b : Book) →
-        Follows t (send_some conn octets.now sent failed) (if result then sent else failed) (D.shown desk.old) (D.shown desk.new) b b counts.old counts.new }
+        Follows t (send_some conn octets.now sent failed) (if result then sent else failed) (D.seen desk.old) (D.seen desk.new) b b counts.old counts.new }
 {
     match octets {
         [] => true,
@@ -56,7 +56,7 @@ fn reply<D: Shown>(
     ensures same { AreSame hands.old hands.new }
     ensures book { IsBookOf hands.new.table.now hands.new.book.now }
     ensures done { (more : DeclaredSide → Plan) (gone : Plan) →
-        Works D.shown (reply_plan heard.conn heard.now more gone message.now side.old answer.now) (if result then more side.new else gone) hands.old hands.new }
+        Works D.seen (reply_plan heard.conn heard.now more gone message.now side.old answer.now) (if result then more side.new else gone) hands.old hands.new }
 {
     let before = side.machine.stage();
     let mut out = [0; 64];
@@ -86,7 +86,7 @@ fn do_asked<D: Shown>(
     ensures book { IsBookOf hands.new.table.now hands.new.book.now }
     ensures fits { IsTrue (fits (ask_of side.new.machine message.now) result) }
     ensures done { (more : DeclaredSide → Plan) (gone : Plan) →
-        Works D.shown (message_plan setting.now heard.conn heard.now more gone side.old (message.now ∷ [])) (reply_plan heard.conn heard.now more gone message.now side.new result) hands.old hands.new }
+        Works D.seen (message_plan setting.now heard.conn heard.now more gone side.old (message.now ∷ [])) (reply_plan heard.conn heard.now more gone message.now side.new result) hands.old hands.new }
 {
     match side.machine.ask(message) {
         Ask::Reserve(request) => {
@@ -132,7 +132,7 @@ fn hear_message<D: Shown>(
     ensures same { AreSame hands.old hands.new }
     ensures book { IsBookOf hands.new.table.now hands.new.book.now }
     ensures done { (more : DeclaredSide → Plan) (gone : Plan) →
-        Works D.shown (message_plan setting.now heard.conn heard.now more gone side.old (message.now ∷ [])) (if result then more side.new else gone) hands.old hands.new }
+        Works D.seen (message_plan setting.now heard.conn heard.now more gone side.old (message.now ∷ [])) (if result then more side.new else gone) hands.old hands.new }
 {
     let answer = do_asked(setting, hands, heard, side, message);
     reply(hands, heard, side, message, &answer)
@@ -158,7 +158,7 @@ pub(crate) fn hear_control<D: Shown>(
     ensures same { AreSame hands.old hands.new }
     ensures book { IsBookOf hands.new.table.now hands.new.book.now }
     ensures done { (more : DeclaredSide → Plan) (gone : Plan) →
-        Works D.shown (control_plan setting.now heard.conn heard.now more gone side.old octets.now) (if result then more side.new else gone) hands.old hands.new }
+        Works D.seen (control_plan setting.now heard.conn heard.now more gone side.old octets.now) (if result then more side.new else gone) hands.old hands.new }
 {
     let mut at = 0;
     while at < octets.len() {

@@ -50,7 +50,7 @@ fn hang_up_side<D: Shown>(hands: &mut Hands<D>, gone: &OpenConnection)
     ensures same { AreSame hands.old hands.new }
     ensures book { IsBookOf hands.new.table.now hands.new.book.now }
     ensures done { (next : Plan) →
-        Works D.shown (hang_up_side gone.now.number gone.now.side next) next hands.old hands.new }
+        Works D.seen (hang_up_side gone.now.number gone.now.side next) next hands.old hands.new }
 {
     match &gone.side {
         Side::Operator(_) => hands.desk.drop_line(gone.number),
@@ -70,7 +70,7 @@ fn hang_up_idle<D: Shown>(places: &mut Places, hands: &mut Hands<D>, now: u64)
     ensures book { IsBookOf hands.new.table.now hands.new.book.now }
     ensures state { state_of places.new ≡ at_connections (state_of places.old) places.new.connections.items }
     ensures done { (next : List DeclaredConnection → Plan) →
-        Works D.shown (idle_plan now next [] places.old.connections.items) (next places.new.connections.items) hands.old hands.new }
+        Works D.seen (idle_plan now next [] places.old.connections.items) (next places.new.connections.items) hands.old hands.new }
 {
     let mut at = 0;
     while at < places.connections.len() {
@@ -89,7 +89,7 @@ pub(crate) fn hear_tick<D: Shown>(places: &mut Places, hands: &mut Hands<D>, now
     ensures same { AreSame hands.old hands.new }
     ensures book { IsBookOf hands.new.table.now hands.new.book.now }
     ensures done { (next : DeskState → Plan) →
-        Works D.shown (ticked_plan now next (state_of places.old)) (next (state_of places.new)) hands.old hands.new }
+        Works D.seen (ticked_plan now next (state_of places.old)) (next (state_of places.new)) hands.old hands.new }
 {
     hang_up_idle(places, hands, now);
     let ticked = hands.book.tick(hands.table, now);

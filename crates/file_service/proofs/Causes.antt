@@ -63,7 +63,7 @@ module _ {P S D T : Type 0} (v : PortView P S) (w : DeskView D T) (f : File) (ps
       let failed = by_port r.desk.end (list_any (λ t. is_port_fault t.end) r.workers.items) (list_any (λ t. is_spent t.end) r.workers.items) end in
       port_failed v s.table f (config_at (steps_of s.joined)) (read s.moment ∷ []) ps qs s.lists r.workers.items s.ports failed
 
-  desk_end : (r : Report) → Served v w f ps qs d e r → run_end r ≡ DeskFailed → HasRisen (w.faults d) (w.faults e)
+  desk_end : (r : Report) → Served v w f ps qs d e r → run_end r ≡ DeskFailed → HasRisen (w d).faults (w e).faults
   desk_end r s end =
       let fault = by_desk r.desk.end (list_any (λ t. is_port_fault t.end) r.workers.items) (list_any (λ t. is_spent t.end) r.workers.items) end in
       omega (arith, desk_failed w s.table f d e s.at_split s.at_end r.desk s.desk fault)
@@ -74,11 +74,11 @@ module _ {P S D T : Type 0} (v : PortView P S) (w : DeskView D T) (f : File) (ps
     run_failed h = port_end h.0 h.1 (told_port (run_end h.0) h.2.reported written' faults faults' h.2.end)
 
     -- where it ended with 10, the desk's has
-    pub desk_run_failed : HasServed v w f ps qs d e 10 written written' faults faults' → HasRisen (w.faults d) (w.faults e)
+    pub desk_run_failed : HasServed v w f ps qs d e 10 written written' faults faults' → HasRisen (w d).faults (w e).faults
     desk_run_failed h = desk_end h.0 h.1 (told_desk (run_end h.0) h.2.reported written' faults faults' h.2.end)
 
-    pub desk_opening_failed : HasClosedDesk v w ps qs d e written written' faults faults' → HasRisen (w.faults d) (w.faults e)
-    desk_opening_failed h = risen (w.faults d) (w.faults e) h.desk.faults
+    pub desk_opening_failed : HasClosedDesk v w ps qs d e written written' faults faults' → HasRisen (w d).faults (w e).faults
+    desk_opening_failed h = risen (w d).faults (w e).faults h.desk.faults
 
     -- where nothing failed, a report ends with 0 or 11
     pub none_failed : (r : Report) (status : ℕ) → Served v w f ps qs d e r → WritesReport r status written written' faults faults' → NothingFails v w ps qs d e faults faults' → (status ≡ 0) ⊎ (status ≡ 4) ⊎ (status ≡ 11)

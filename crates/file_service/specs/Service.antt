@@ -64,7 +64,7 @@ HasTooFewPorts f count written written' faults faults' = (count < f.workers) × 
 pub record NothingFails {P S D T : Type 0} (v : PortView P S) (w : DeskView D T) (ps qs : List P) (d e : D) (faults faults' : ℕ) : Type 0 where
   pub writes : Rises faults faults' → ⊥
   pub ports : OneHasFailed v ps qs → ⊥
-  pub desk_calls : HasRisen (w.faults d) (w.faults e) → ⊥
+  pub desk_calls : HasRisen (w d).faults (w e).faults → ⊥
 
 -- the content of the name was accepted, with no more workers than ports, and this is so of its file
 abbrev pub OfFile : {P : Type 0} → Option (List port.File) → List ℕ → List P → (File → Type 0) → Type 0

@@ -10,7 +10,6 @@ ghost use Rattle.conf_check.specs.Lines.{fault_line};
 ghost use Rattle.conf_check.specs.Loading.{file_limit, IsAccepted};
 ghost use Rattle.conf_check.specs.Writing.{WritesLine, WritesNothing};
 ghost use Rattle.conf_check.specs.Checking.{WasFaulty, WasNotLoaded, content_status};
-ghost use Rattle.reflector_serve.specs.Served.{desk_view};
 ghost use Rattle.file_service.specs.Ends as spec;
 ghost use Rattle.file_service.specs.Service.{WritesReport, HasServed, HasLostReport, HasNoReport, HasClosedPort, HasClosedDesk, HasTooFewPorts, OfFile, HasRisen, OneHasFailed, NothingFails};
 
@@ -84,15 +83,15 @@ fn serve_conf<R: Threads + Sync, K: Sink, P: Port + Send, D: Desk>(
 ) -> u8
     requires { conf.now.workers ≤ length ports.old }
     ensures statuses { (result ≡ 0) ⊎ (result ≡ 4) ⊎ (result ≡ 8) ⊎ (result ≡ 9) ⊎ (result ≡ 10) ⊎ (result ≡ 11) }
-    ensures done { result ≡ 0 → HasServed P.shown (desk_view D.log D.coming D.made D.faults) conf.now ports.old ports.new desk.old desk.new 0 (K.written out.old) (K.written out.new) (K.faults out.old) (K.faults out.new) }
-    ensures memory { result ≡ 4 → WritesNothing (K.written out.old) (K.written out.new) (K.faults out.old) (K.faults out.new) × (((ports.new ≡ ports.old) × (desk.new ≡ desk.old)) ⊎ HasNoReport P.shown (desk_view D.log D.coming D.made D.faults) conf.now ports.old ports.new desk.old desk.new) }
-    ensures lost { result ≡ 8 → HasLostReport P.shown (desk_view D.log D.coming D.made D.faults) conf.now ports.old ports.new desk.old desk.new (K.written out.old) (K.written out.new) (K.faults out.old) (K.faults out.new) }
-    ensures port_failed { result ≡ 9 → HasClosedPort P.shown ports.old ports.new desk.old desk.new (K.written out.old) (K.written out.new) (K.faults out.old) (K.faults out.new) ⊎ HasServed P.shown (desk_view D.log D.coming D.made D.faults) conf.now ports.old ports.new desk.old desk.new 9 (K.written out.old) (K.written out.new) (K.faults out.old) (K.faults out.new) }
-    ensures desk_failed { result ≡ 10 → HasClosedDesk P.shown (desk_view D.log D.coming D.made D.faults) ports.old ports.new desk.old desk.new (K.written out.old) (K.written out.new) (K.faults out.old) (K.faults out.new) ⊎ HasServed P.shown (desk_view D.log D.coming D.made D.faults) conf.now ports.old ports.new desk.old desk.new 10 (K.written out.old) (K.written out.new) (K.faults out.old) (K.faults out.new) }
-    ensures budget_spent { result ≡ 11 → HasServed P.shown (desk_view D.log D.coming D.made D.faults) conf.now ports.old ports.new desk.old desk.new 11 (K.written out.old) (K.written out.new) (K.faults out.old) (K.faults out.new) }
+    ensures done { result ≡ 0 → HasServed P.shown D.shown conf.now ports.old ports.new desk.old desk.new 0 (K.written out.old) (K.written out.new) (K.faults out.old) (K.faults out.new) }
+    ensures memory { result ≡ 4 → WritesNothing (K.written out.old) (K.written out.new) (K.faults out.old) (K.faults out.new) × (((ports.new ≡ ports.old) × (desk.new ≡ desk.old)) ⊎ HasNoReport P.shown D.shown conf.now ports.old ports.new desk.old desk.new) }
+    ensures lost { result ≡ 8 → HasLostReport P.shown D.shown conf.now ports.old ports.new desk.old desk.new (K.written out.old) (K.written out.new) (K.faults out.old) (K.faults out.new) }
+    ensures port_failed { result ≡ 9 → HasClosedPort P.shown ports.old ports.new desk.old desk.new (K.written out.old) (K.written out.new) (K.faults out.old) (K.faults out.new) ⊎ HasServed P.shown D.shown conf.now ports.old ports.new desk.old desk.new 9 (K.written out.old) (K.written out.new) (K.faults out.old) (K.faults out.new) }
+    ensures desk_failed { result ≡ 10 → HasClosedDesk P.shown D.shown ports.old ports.new desk.old desk.new (K.written out.old) (K.written out.new) (K.faults out.old) (K.faults out.new) ⊎ HasServed P.shown D.shown conf.now ports.old ports.new desk.old desk.new 10 (K.written out.old) (K.written out.new) (K.faults out.old) (K.faults out.new) }
+    ensures budget_spent { result ≡ 11 → HasServed P.shown D.shown conf.now ports.old ports.new desk.old desk.new 11 (K.written out.old) (K.written out.new) (K.faults out.old) (K.faults out.new) }
     ensures port_cause { result ≡ 9 → OneHasFailed P.shown ports.old ports.new }
-    ensures desk_cause { result ≡ 10 → HasRisen (D.faults desk.old) (D.faults desk.new) }
-    ensures complete { NothingFails P.shown (desk_view D.log D.coming D.made D.faults) ports.old ports.new desk.old desk.new (K.faults out.old) (K.faults out.new) → (result ≡ 0) ⊎ (result ≡ 4) ⊎ (result ≡ 11) }
+    ensures desk_cause { result ≡ 10 → HasRisen (D.shown desk.old).faults (D.shown desk.new).faults }
+    ensures complete { NothingFails P.shown D.shown ports.old ports.new desk.old desk.new (K.faults out.old) (K.faults out.new) → (result ≡ 0) ⊎ (result ≡ 4) ⊎ (result ≡ 11) }
 {
     match serve(rt, alloc, conf, ports, desk) {
         Ok(report) => tell_report(alloc, &report, out),
@@ -126,16 +125,16 @@ pub fn run_file<R: Threads + Sync, K: Sink, F: Files, P: Port + Send, D: Desk>(
     ensures not_loaded { result ≡ 5 → WasNotLoaded (F.files files.old) name.now (F.faults files.old) (F.faults files.new) (K.written out.old) (K.written out.new) (K.faults out.old) (K.faults out.new) }
     ensures untouched { (result ≡ 3) ⊎ (result ≡ 5) → (ports.new ≡ ports.old) × (desk.new ≡ desk.old) }
     ensures memory { result ≡ 4 → WritesNothing (K.written out.old) (K.written out.new) (K.faults out.old) (K.faults out.new) }
-    ensures memory_served { result ≡ 4 → ((ports.new ≡ ports.old) × (desk.new ≡ desk.old)) ⊎ OfFile (F.files files.old) name.now ports.old (λ f. HasNoReport P.shown (desk_view D.log D.coming D.made D.faults) f ports.old ports.new desk.old desk.new) }
+    ensures memory_served { result ≡ 4 → ((ports.new ≡ ports.old) × (desk.new ≡ desk.old)) ⊎ OfFile (F.files files.old) name.now ports.old (λ f. HasNoReport P.shown D.shown f ports.old ports.new desk.old desk.new) }
 
     // The file was served, and its report written.
-    ensures done { result ≡ 0 → OfFile (F.files files.old) name.now ports.old (λ f. HasServed P.shown (desk_view D.log D.coming D.made D.faults) f ports.old ports.new desk.old desk.new 0 (K.written out.old) (K.written out.new) (K.faults out.old) (K.faults out.new)) }
-    ensures lost { result ≡ 8 → OfFile (F.files files.old) name.now ports.old (λ f. HasLostReport P.shown (desk_view D.log D.coming D.made D.faults) f ports.old ports.new desk.old desk.new (K.written out.old) (K.written out.new) (K.faults out.old) (K.faults out.new)) }
-    ensures port_failed { result ≡ 9 → OfFile (F.files files.old) name.now ports.old (λ f. HasClosedPort P.shown ports.old ports.new desk.old desk.new (K.written out.old) (K.written out.new) (K.faults out.old) (K.faults out.new) ⊎ HasServed P.shown (desk_view D.log D.coming D.made D.faults) f ports.old ports.new desk.old desk.new 9 (K.written out.old) (K.written out.new) (K.faults out.old) (K.faults out.new)) }
-    ensures desk_failed { result ≡ 10 → OfFile (F.files files.old) name.now ports.old (λ f. HasClosedDesk P.shown (desk_view D.log D.coming D.made D.faults) ports.old ports.new desk.old desk.new (K.written out.old) (K.written out.new) (K.faults out.old) (K.faults out.new) ⊎ HasServed P.shown (desk_view D.log D.coming D.made D.faults) f ports.old ports.new desk.old desk.new 10 (K.written out.old) (K.written out.new) (K.faults out.old) (K.faults out.new)) }
-    ensures budget_spent { result ≡ 11 → OfFile (F.files files.old) name.now ports.old (λ f. HasServed P.shown (desk_view D.log D.coming D.made D.faults) f ports.old ports.new desk.old desk.new 11 (K.written out.old) (K.written out.new) (K.faults out.old) (K.faults out.new)) }
+    ensures done { result ≡ 0 → OfFile (F.files files.old) name.now ports.old (λ f. HasServed P.shown D.shown f ports.old ports.new desk.old desk.new 0 (K.written out.old) (K.written out.new) (K.faults out.old) (K.faults out.new)) }
+    ensures lost { result ≡ 8 → OfFile (F.files files.old) name.now ports.old (λ f. HasLostReport P.shown D.shown f ports.old ports.new desk.old desk.new (K.written out.old) (K.written out.new) (K.faults out.old) (K.faults out.new)) }
+    ensures port_failed { result ≡ 9 → OfFile (F.files files.old) name.now ports.old (λ f. HasClosedPort P.shown ports.old ports.new desk.old desk.new (K.written out.old) (K.written out.new) (K.faults out.old) (K.faults out.new) ⊎ HasServed P.shown D.shown f ports.old ports.new desk.old desk.new 9 (K.written out.old) (K.written out.new) (K.faults out.old) (K.faults out.new)) }
+    ensures desk_failed { result ≡ 10 → OfFile (F.files files.old) name.now ports.old (λ f. HasClosedDesk P.shown D.shown ports.old ports.new desk.old desk.new (K.written out.old) (K.written out.new) (K.faults out.old) (K.faults out.new) ⊎ HasServed P.shown D.shown f ports.old ports.new desk.old desk.new 10 (K.written out.old) (K.written out.new) (K.faults out.old) (K.faults out.new)) }
+    ensures budget_spent { result ≡ 11 → OfFile (F.files files.old) name.now ports.old (λ f. HasServed P.shown D.shown f ports.old ports.new desk.old desk.new 11 (K.written out.old) (K.written out.new) (K.faults out.old) (K.faults out.new)) }
     ensures port_cause { result ≡ 9 → OneHasFailed P.shown ports.old ports.new }
-    ensures desk_cause { result ≡ 10 → HasRisen (D.faults desk.old) (D.faults desk.new) }
+    ensures desk_cause { result ≡ 10 → HasRisen (D.shown desk.old).faults (D.shown desk.new).faults }
 
     // Where no load fails, the content decides whether it is served; and what is served ends with 0 where nothing else fails,
     // or with 11 where a budget is spent. Memory alone is free.
@@ -145,7 +144,7 @@ pub fn run_file<R: Threads + Sync, K: Sink, F: Files, P: Port + Send, D: Desk>(
         → length text ≤ file_limit → file_in text ≡ Ok f → length ports.old < f.workers → (result ≡ 3) ⊎ (result ≡ 4) }
     ensures complete { (fs : List port.File) (text : List ℕ) (f : File) → F.files files.old ≡ Some fs → content name.now fs ≡ Some text → (Rises (F.faults files.old) (F.faults files.new) → ⊥)
         → length text ≤ file_limit → file_in text ≡ Ok f → f.workers ≤ length ports.old
-        → NothingFails P.shown (desk_view D.log D.coming D.made D.faults) ports.old ports.new desk.old desk.new (K.faults out.old) (K.faults out.new) → (result ≡ 0) ⊎ (result ≡ 4) ⊎ (result ≡ 11) }
+        → NothingFails P.shown D.shown ports.old ports.new desk.old desk.new (K.faults out.old) (K.faults out.new) → (result ≡ 0) ⊎ (result ≡ 4) ⊎ (result ≡ 11) }
 {
     let conf = match open_conf(alloc, name, files, out) {
         Ok(conf) => conf,

@@ -4,3 +4,4 @@ pub mod ScriptPort
 pub mod Desk
 pub mod ScriptDesk
 pub mod PortShown
+pub mod DeskShown

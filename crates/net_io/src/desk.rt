@@ -1,8 +1,9 @@
 //! A desk: where control connections and operators come in.
 
-ghost use Rattle.std.specs.Prelude.{◌≡◌, ℕ, Bool, List, [], ◌∷◌, ◌≤◌, length, Option, IsTrue, IfOk, OnOk, OnErr};
+ghost use Rattle.std.specs.Prelude.{◌≡◌, [], ◌∷◌, ◌≤◌, length, Option, IsTrue, IfOk, OnOk, OnErr};
 ghost use Rattle.port_io.specs.Outside.{Rises};
 ghost use Rattle.net_io.specs.Log.{Grows};
+ghost use Rattle.net_io.specs.DeskShown.{DeskShown};
 ghost use Rattle.net_io.specs.Desk.{DeskEntry, Gives, next_entry, send_entry, open_entry, hung_up, finished, octet_count, piece_limit};
 
 use port_io::Failed;
@@ -56,16 +57,8 @@ pub trait Desk {
     /// What a desk tells of how it was made: nothing, or data that no call changes.
     type Setup;
 
-    // Whether it is open.
-    ghost is_open: { Self → Bool };
-    // The events that are still to come, with their octets, where this is told.
-    ghost coming: { Self → Option (List DeskEntry) };
-    // All that it gave and did, where this is told.
-    ghost log: { Self → Option (List DeskEntry) };
-    // What it was made with.
-    ghost made: { Self → Self.Setup };
-    // How often it has failed.
-    ghost faults: { Self → ℕ };
+    // What it shows of itself.
+    ghost shown: { Self → DeskShown Self.Setup };
     // How it goes on by an entry of its log, whether the log is told or not: from what it was before the call, to what it is then.
     ghost goes: { Self → DeskEntry → Self → Type 0 } = { λ _ _ _. Unit {0} };
 
@@ -76,52 +69,52 @@ pub trait Desk {
         control: Option<LocalAddr>,
         operator: Option<LocalAddr>,
     ) -> Result<(), Failed>
-        ensures open { OnOk result (IsTrue (is_open self.new)) }
-        ensures not_open { OnErr result (is_open self.new ≡ is_open self.old) }
-        ensures coming { coming self.new ≡ coming self.old }
-        ensures log { Grows (log self.old) (log self.new) (open_entry control operator result ∷ []) }
-        ensures made { made self.new ≡ made self.old }
+        ensures open { OnOk result (IsTrue (shown self.new).is_open) }
+        ensures not_open { OnErr result ((shown self.new).is_open ≡ (shown self.old).is_open) }
+        ensures coming { (shown self.new).coming ≡ (shown self.old).coming }
+        ensures log { Grows (shown self.old).log (shown self.new).log (open_entry control operator result ∷ []) }
+        ensures made { (shown self.new).made ≡ (shown self.old).made }
         ensures goes { goes self.old (open_entry control operator result) self.new }
-        ensures still { OnOk result (faults self.new ≡ faults self.old) }
-        ensures cause { OnErr result (Rises (faults self.old) (faults self.new)) };
+        ensures still { OnOk result ((shown self.new).faults ≡ (shown self.old).faults) }
+        ensures cause { OnErr result (Rises (shown self.old).faults (shown self.new).faults) };
 
     /// Waits for the next event. The octets that come with it stand at the front of the buffer. A call that fails takes none.
     fn next(&mut self, buf: &mut [u8]) -> Result<Timed, Failed>
-        requires open { IsTrue (is_open self.old) }
+        requires open { IsTrue (shown self.old).is_open }
         requires room { piece_limit ≤ length buf.old }
         ensures len { IfOk result (λ t. octet_count t.event ≤ piece_limit) }
-        ensures open { is_open self.new ≡ is_open self.old }
-        ensures coming { Gives (coming self.old) (coming self.new) buf.new result }
-        ensures log { Grows (log self.old) (log self.new) (next_entry buf.new result ∷ []) }
-        ensures made { made self.new ≡ made self.old }
+        ensures open { (shown self.new).is_open ≡ (shown self.old).is_open }
+        ensures coming { Gives (shown self.old).coming (shown self.new).coming buf.new result }
+        ensures log { Grows (shown self.old).log (shown self.new).log (next_entry buf.new result ∷ []) }
+        ensures made { (shown self.new).made ≡ (shown self.old).made }
         ensures goes { goes self.old (next_entry buf.new result) self.new }
-        ensures still { OnOk result (faults self.new ≡ faults self.old) }
-        ensures cause { OnErr result (Rises (faults self.old) (faults self.new)) };
+        ensures still { OnOk result ((shown self.new).faults ≡ (shown self.old).faults) }
+        ensures cause { OnErr result (Rises (shown self.old).faults (shown self.new).faults) };
 
     /// Sends octets on a connection.
     fn send(&mut self, conn: u32, octets: &[u8]) -> Result<(), Failed>
-        ensures open { is_open self.new ≡ is_open self.old }
-        ensures coming { coming self.new ≡ coming self.old }
-        ensures log { Grows (log self.old) (log self.new) (send_entry conn octets.now result ∷ []) }
-        ensures made { made self.new ≡ made self.old }
+        ensures open { (shown self.new).is_open ≡ (shown self.old).is_open }
+        ensures coming { (shown self.new).coming ≡ (shown self.old).coming }
+        ensures log { Grows (shown self.old).log (shown self.new).log (send_entry conn octets.now result ∷ []) }
+        ensures made { (shown self.new).made ≡ (shown self.old).made }
         ensures goes { goes self.old (send_entry conn octets.now result) self.new }
-        ensures still { OnOk result (faults self.new ≡ faults self.old) }
-        ensures cause { OnErr result (Rises (faults self.old) (faults self.new)) };
+        ensures still { OnOk result ((shown self.new).faults ≡ (shown self.old).faults) }
+        ensures cause { OnErr result (Rises (shown self.old).faults (shown self.new).faults) };
 
     /// Hangs a connection up.
     fn hang_up(&mut self, conn: u32)
-        ensures open { is_open self.new ≡ is_open self.old }
-        ensures coming { coming self.new ≡ coming self.old }
-        ensures log { Grows (log self.old) (log self.new) (hung_up conn ∷ []) }
-        ensures made { made self.new ≡ made self.old }
+        ensures open { (shown self.new).is_open ≡ (shown self.old).is_open }
+        ensures coming { (shown self.new).coming ≡ (shown self.old).coming }
+        ensures log { Grows (shown self.old).log (shown self.new).log (hung_up conn ∷ []) }
+        ensures made { (shown self.new).made ≡ (shown self.old).made }
         ensures goes { goes self.old (hung_up conn) self.new }
-        ensures still { faults self.new ≡ faults self.old };
+        ensures still { (shown self.new).faults ≡ (shown self.old).faults };
 
     /// Says that the desk has ended.
     fn finish(&mut self)
-        ensures coming { coming self.new ≡ coming self.old }
-        ensures log { Grows (log self.old) (log self.new) (finished ∷ []) }
-        ensures made { made self.new ≡ made self.old }
+        ensures coming { (shown self.new).coming ≡ (shown self.old).coming }
+        ensures log { Grows (shown self.old).log (shown self.new).log (finished ∷ []) }
+        ensures made { (shown self.new).made ≡ (shown self.old).made }
         ensures goes { goes self.old finished self.new }
-        ensures still { faults self.new ≡ faults self.old };
+        ensures still { (shown self.new).faults ≡ (shown self.old).faults };
 }

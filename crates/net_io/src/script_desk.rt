@@ -138,15 +138,7 @@ impl Desk for ScriptDesk {
 
     type Setup = ();
 
-    ghost is_open = { λ s. s.is_open };
-
-    ghost coming = { λ s. Some s.coming };
-
-    ghost log = { told_log };
-
-    ghost made = { λ s. tt };
-
-    ghost faults = { λ s. s.faults };
+    ghost shown = { λ s. record { is_open = s.is_open; coming = Some s.coming; log = told_log s; made = tt; faults = s.faults } };
 
     fn open(
         &mut self,

@@ -30,9 +30,9 @@ use Rattle.reflector_serve.proofs.WideFacts.{wide_served}
 
 -- how the desk was opened
 pub record IsReady {D S : Type 0} (v : DeskView D S) (f : File) (d e : D) : Type 0 where
-  pub log : Grows (v.log d) (v.log e) (opened f.control f.operator ∷ [])
-  pub made : v.made e ≡ v.made d
-  pub still : v.faults e ≡ v.faults d
+  pub log : Grows (v d).log (v e).log (opened f.control f.operator ∷ [])
+  pub made : (v e).made ≡ (v d).made
+  pub still : (v e).faults ≡ (v d).faults
 
 module _ {P S D T : Type 0} (v : PortView P S) (w : DeskView D T) (t : Table) (f : File) (room : Room) (moment : ℕ) (ps ts os qs : List P) (d r e : D) (before b split c : Book) (report : Report) where
   pub whole_served : size_of t ≡ size_in f → IsNewBook t f before → OpensFile t f moment before b → HasOpened t f moment before b → BookFits b → RowsStay → SplitsOff t f.workers b split → room ≡ first_room f
@@ -52,9 +52,9 @@ module _ {P S D T : Type 0} (v : PortView P S) (w : DeskView D T) (t : Table) (f
     desk = record {
       ready = r;
       opening = ready.log;
-      ran = subst (λ (x : Room). HasRun t x.setting f.turns x.state (w.log r) (w.log e) split hs.at_end report.desk) is_room hs.desk.ran;
+      ran = subst (λ (x : Room). HasRun t x.setting f.turns x.state (w r).log (w e).log split hs.at_end report.desk) is_room hs.desk.ran;
       made = hs.desk.made ∙ ready.made;
-      faults = subst (λ (n : ℕ). AreFaultsTold n (w.faults e) report.desk.faults) ready.still hs.desk.faults;
+      faults = subst (λ (n : ℕ). AreFaultsTold n (w e).faults report.desk.faults) ready.still hs.desk.faults;
     };
     joined = c;
     lists = hs.lists;

@@ -23,9 +23,9 @@ use Rattle.control_desk.specs.declared.counts.DeskTally.{DeskTally}
 
 pub record DeskRan {D S : Type 0} (t : Table) (v : DeskView D S) (turns : ℕ) (room : Room) (d e : D) (b c : Book) (tally : DeskTally) : Type 0 where
   pub went : DeskWent t b c
-  pub ran : HasRun t room.setting turns room.state (v.log d) (v.log e) b c tally
-  pub made : v.made e ≡ v.made d
-  pub faults : AreFaultsTold (v.faults d) (v.faults e) tally.faults
+  pub ran : HasRun t room.setting turns room.state (v d).log (v e).log b c tally
+  pub made : (v e).made ≡ (v d).made
+  pub faults : AreFaultsTold (v d).faults (v e).faults tally.faults
 
 -- The workers and the desk ran from the book b, which had gone on from the list `first`, and all were joined. What the opening had
 -- left of the ports is told apart

@@ -1,9 +1,10 @@
 -- One run of the reflector, from the opening to the last join (this project's own).
-use Rattle.std.specs.Prelude.{◌≡◌, ℕ, ◌+◌, List, [], ◌∷◌, ◌++◌, length, map, reverse, Option, None}
+use Rattle.std.specs.Prelude.{◌≡◌, ℕ, ◌+◌, List, [], ◌∷◌, ◌++◌, length, map, reverse, None}
 use Rattle.refl_types.specs.declared.config.ConfigParts.{ConfigParts}
 use Rattle.net_io.specs.Log.{Grows}
 use Rattle.net_io.specs.Port.{PortEntry, read}
-use Rattle.net_io.specs.Desk.{DeskEntry, opened, open_failed}
+use Rattle.net_io.specs.Desk.{opened, open_failed}
+use Rattle.net_io.specs.DeskShown.{DeskShown}
 use Rattle.port_io.specs.Outside.{Rises}
 use Rattle.session_world.specs.declared.steps.Step.{Step}
 use Rattle.session_world.specs.Desk.{config_at}
@@ -78,30 +79,24 @@ AllServed v t f config told ps qs lists ys = ⊥
 
 -- ---- the desk
 
--- what desks of the type D tell of themselves
-pub record DeskView (D S : Type 0) : Type 0 where
-  pub log : D → Option (List DeskEntry)
-  pub coming : D → Option (List DeskEntry)
-  pub made : D → S
-  pub faults : D → ℕ
-
-abbrev pub desk_view : {D S : Type 0} → (D → Option (List DeskEntry)) → (D → Option (List DeskEntry)) → (D → S) → (D → ℕ) → DeskView D S
-desk_view log coming made faults = record { log = log; coming = coming; made = made; faults = faults }
+-- how desks of the type D show themselves
+abbrev pub DeskView : Type 0 → Type 0 → Type 0
+DeskView D S = D → DeskShown S
 
 -- the desk failed to open, and nothing else happened at it
 pub record HasNotOpened {D S : Type 0} (v : DeskView D S) (d e : D) : Type 0 where
-  pub log : Grows (v.log d) (v.log e) (open_failed ∷ [])
-  pub coming : v.coming e ≡ v.coming d
-  pub made : v.made e ≡ v.made d
-  pub faults : Rises (v.faults d) (v.faults e)
+  pub log : Grows (v d).log (v e).log (open_failed ∷ [])
+  pub coming : (v e).coming ≡ (v d).coming
+  pub made : (v e).made ≡ (v d).made
+  pub faults : Rises (v d).faults (v e).faults
 
 -- The desk was opened at the file's addresses for control connections and operators. Then it ran over the book, and its log tells it
 pub record IsRun {D S : Type 0} (v : DeskView D S) (t : Table) (f : File) (d e : D) (b c : Book) (tally : DeskTally) : Type 0 where
   pub ready : D
-  pub opening : Grows (v.log d) (v.log ready) (opened f.control f.operator ∷ [])
-  pub ran : HasRun t (setting_of f) f.turns (first_state f) (v.log ready) (v.log e) b c tally
-  pub made : v.made e ≡ v.made d
-  pub faults : AreFaultsTold (v.faults d) (v.faults e) tally.faults
+  pub opening : Grows (v d).log (v ready).log (opened f.control f.operator ∷ [])
+  pub ran : HasRun t (setting_of f) f.turns (first_state f) (v ready).log (v e).log b c tally
+  pub made : (v e).made ≡ (v d).made
+  pub faults : AreFaultsTold (v d).faults (v e).faults tally.faults
 
 -- ---- the whole
 

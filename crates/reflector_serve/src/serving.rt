@@ -6,7 +6,6 @@ ghost use Rattle.session_world.specs.declared.steps.Step.{Step};
 ghost use Rattle.session_desk.specs.Book.{IsBookOf};
 ghost use Rattle.reflector_serve.specs.Posts.{AreReady, AllWorked, AreSeated, AreNumbered, AreFresh};
 ghost use Rattle.reflector_serve.specs.Running.{DeskRan, HasServed};
-ghost use Rattle.reflector_serve.specs.Served.{desk_view};
 ghost use Rattle.reflector_serve.specs.Phases.{Phase};
 
 use crate::post::Post;
@@ -31,8 +30,8 @@ fn run_at<D: Desk>(
     desk: &mut D,
 ) -> DeskTally
     requires book { IsBookOf table.now book.old }
-    requires open { IsTrue (D.is_open desk.old) }
-    ensures { DeskRan table.now (desk_view D.log D.coming D.made D.faults) conf.now.turns room.old desk.old desk.new book.old book.new result }
+    requires open { IsTrue (D.shown desk.old).is_open }
+    ensures { DeskRan table.now D.shown conf.now.turns room.old desk.old desk.new book.old book.new result }
 {
     run_desk(table, book, room, desk, conf.turns())
 }
@@ -51,9 +50,9 @@ pub(crate) fn run_all<R: Threads + Sync, P: Port + Send, D: Desk>(
     requires enough { length posts.old ≤ length ports.old }
     requires ready { AreReady P.shown table.now conf.now.locals ports.old posts.old }
     requires book { IsBookOf table.now book.old }
-    requires open { IsTrue (D.is_open desk.old) }
+    requires open { IsTrue (D.shown desk.old).is_open }
     ensures workers { AllWorked P.shown table.now conf.now ports.old ports.new posts.old posts.new }
-    ensures desk { DeskRan table.now (desk_view D.log D.coming D.made D.faults) conf.now.turns room.old desk.old desk.new book.old book.new result }
+    ensures desk { DeskRan table.now D.shown conf.now.turns room.old desk.old desk.new book.old book.new result }
 {
     let (_, tally) = join_mut(
         rt,
@@ -62,8 +61,8 @@ pub(crate) fn run_all<R: Threads + Sync, P: Port + Send, D: Desk>(
             ensures { AllWorked P.shown table.entry.now conf.entry.now ports.entry.now ports.exit.now posts.entry.now posts.exit.now }
         { work_all(rt, table, conf, ports, posts) },
         &mut ||
-            requires { IsBookOf table.now book.now × IsTrue (D.is_open desk.now) }
-            ensures { DeskRan table.entry.now (desk_view D.log D.coming D.made D.faults) conf.entry.now.turns room.entry.now desk.entry.now desk.exit.now book.entry.now book.exit.now result }
+            requires { IsBookOf table.now book.now × IsTrue (D.shown desk.now).is_open }
+            ensures { DeskRan table.entry.now D.shown conf.entry.now.turns room.entry.now desk.entry.now desk.exit.now book.entry.now book.exit.now result }
         { run_at(table, conf, book, room, desk) },
     );
     tally
@@ -98,11 +97,11 @@ pub(crate) fn serve_split<R: Threads + Sync, P: Port + Send, D: Desk>(
     requires numbers { AreNumbered 1 posts.items }
     requires fresh { AreFresh posts.items }
     requires book { IsBookOf table.now book.old }
-    requires open { IsTrue (D.is_open desk.old) }
+    requires open { IsTrue (D.shown desk.old).is_open }
     requires empty { tallies.items ≡ [] }
     requires space { vec_len posts ≤ vec_capacity tallies }
     ensures { (first base : List Step) → Phase table.now first base book.old (vec_len posts) []
-        → HasServed P.shown (desk_view D.log D.coming D.made D.faults) table.now conf.now room.old first ports.old ports.new desk.old desk.new book.old book.new result }
+        → HasServed P.shown D.shown table.now conf.now room.old first ports.old ports.new desk.old desk.new book.old book.new result }
 {
     let tally = run_all(
         rt,

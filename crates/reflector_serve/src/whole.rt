@@ -2,7 +2,7 @@
 
 ghost use Rattle.std.specs.Prelude.{◌≡◌, ℕ, ◌<◌, ◌≤◌, [], Err, length, vec_len, vec_capacity, IfOk};
 ghost use Rattle.reflector_serve.specs.Ports.{OneFails};
-ghost use Rattle.reflector_serve.specs.Served.{desk_view, AreQuiet, HasNotOpened, Served};
+ghost use Rattle.reflector_serve.specs.Served.{AreQuiet, HasNotOpened, Served};
 
 use crate::ports::{open_ports, read_first};
 use crate::post::Post;
@@ -45,8 +45,8 @@ fn serve_at<R: Threads + Sync, P: Port + Send, D: Desk>(
     requires { length ports.old ≡ conf.now.workers }
     ensures memory { result ≡ Err ServeFault.Memory → (ports.new ≡ ports.old) × (desk.new ≡ desk.old) }
     ensures port_open { result ≡ Err ServeFault.PortOpen → AreQuiet P.shown ports.old ports.new × OneFails P.shown ports.old ports.new × (desk.new ≡ desk.old) }
-    ensures desk_open { result ≡ Err ServeFault.DeskOpen → AreQuiet P.shown ports.old ports.new × HasNotOpened (desk_view D.log D.coming D.made D.faults) desk.old desk.new }
-    ensures served { IfOk result (λ r. Served P.shown (desk_view D.log D.coming D.made D.faults) conf.now ports.old ports.new desk.old desk.new r) }
+    ensures desk_open { result ≡ Err ServeFault.DeskOpen → AreQuiet P.shown ports.old ports.new × HasNotOpened D.shown desk.old desk.new }
+    ensures served { IfOk result (λ r. Served P.shown D.shown conf.now ports.old ports.new desk.old desk.new r) }
 {
     let count = conf.workers() as usize;
     let Ok((table, mut book)) = new_table(alloc, conf) else {
@@ -92,8 +92,8 @@ pub fn serve<R: Threads + Sync, P: Port + Send, D: Desk>(
     requires { conf.now.workers ≤ length ports.old }
     ensures memory { result ≡ Err ServeFault.Memory → (ports.new ≡ ports.old) × (desk.new ≡ desk.old) }
     ensures port_open { result ≡ Err ServeFault.PortOpen → AreQuiet P.shown ports.old ports.new × OneFails P.shown ports.old ports.new × (desk.new ≡ desk.old) }
-    ensures desk_open { result ≡ Err ServeFault.DeskOpen → AreQuiet P.shown ports.old ports.new × HasNotOpened (desk_view D.log D.coming D.made D.faults) desk.old desk.new }
-    ensures served { IfOk result (λ r. Served P.shown (desk_view D.log D.coming D.made D.faults) conf.now ports.old ports.new desk.old desk.new r) }
+    ensures desk_open { result ≡ Err ServeFault.DeskOpen → AreQuiet P.shown ports.old ports.new × HasNotOpened D.shown desk.old desk.new }
+    ensures served { IfOk result (λ r. Served P.shown D.shown conf.now ports.old ports.new desk.old desk.new r) }
 {
     let (serving, _others) = ports.split_at_mut(conf.workers() as usize);
     serve_at(rt, alloc, conf, serving, desk)

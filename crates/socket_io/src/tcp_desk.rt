@@ -135,15 +135,7 @@ impl<R: Net + Clock + Copy> Desk for TcpDesk<R> {
 
     type Setup = ();
 
-    ghost is_open = { λ desk. desk.is_open };
-
-    ghost coming = { λ desk. None };
-
-    ghost log = { λ desk. None };
-
-    ghost made = { λ desk. tt };
-
-    ghost faults = { λ desk. desk.faults };
+    ghost shown = { λ desk. record { is_open = desk.is_open; coming = None; log = None; made = tt; faults = desk.faults } };
 
     fn open(
         &mut self,

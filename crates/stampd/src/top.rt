@@ -10,7 +10,6 @@ ghost use Rattle.conf_text.specs.File.{File, file_in};
 ghost use Rattle.conf_check.specs.Loading.{file_limit, IsAccepted};
 ghost use Rattle.conf_check.specs.Writing.{WritesLine};
 ghost use Rattle.conf_check.specs.Checking.{WasAccepted, WasCutShort, WasFaulty, WasNotLoaded, content_status};
-ghost use Rattle.reflector_serve.specs.Served.{desk_view};
 ghost use Rattle.file_service.specs.Service.{HasServed, HasLostReport, HasNoReport, HasClosedPort, HasClosedDesk, HasTooFewPorts, OfFile, HasRisen, OneHasFailed, NothingFails};
 ghost use Rattle.stampd.specs.Command.{IsReplay, IsCheck, IsRun, IsGen, IsAnyCommand, WasReported, ReportWasCut, usage};
 ghost use Rattle.stampd.specs.Replay.{IsStream, IsNoStream, IsDone, HasLeft, WasCutOff, WasStopped, IsUntouched};
@@ -56,11 +55,11 @@ pub fn stampd<R: Threads + Sync, S: Source, K: Sink, F: Files, P: Port + Send, D
     // served by the file, with this report, which was written; or the lines of the load were written.
     ensures done { result ≡ 0 → (IsReplay (map string_bytes words.now) × IsDone (S.left input.old) (S.left input.new) (K.written out.old) (K.written out.new))
         ⊎ ((name : List ℕ) × IsCheck name (map string_bytes words.now) × WasAccepted (F.files files.old) name (K.written out.old) (K.written out.new))
-        ⊎ ((name : List ℕ) × IsRun name (map string_bytes words.now) × OfFile (F.files files.old) name ports.old (λ f. HasServed P.shown (desk_view D.log D.coming D.made D.faults) f ports.old ports.new desk.old desk.new 0 (K.written out.old) (K.written out.new) (K.faults out.old) (K.faults out.new)))
+        ⊎ ((name : List ℕ) × IsRun name (map string_bytes words.now) × OfFile (F.files files.old) name ports.old (λ f. HasServed P.shown D.shown f ports.old ports.new desk.old desk.new 0 (K.written out.old) (K.written out.new) (K.faults out.old) (K.faults out.new)))
         ⊎ WasReported (map string_bytes words.now) (K.written out.old) (K.written out.new) }
     ensures memory { result ≡ 4 → IsUntouched (S.left input.old) (S.left input.new) (K.written out.old) (K.written out.new) }
     ensures memory_served { result ≡ 4 → ((ports.new ≡ ports.old) × (desk.new ≡ desk.old))
-        ⊎ ((name : List ℕ) × IsRun name (map string_bytes words.now) × OfFile (F.files files.old) name ports.old (λ f. HasNoReport P.shown (desk_view D.log D.coming D.made D.faults) f ports.old ports.new desk.old desk.new)) }
+        ⊎ ((name : List ℕ) × IsRun name (map string_bytes words.now) × OfFile (F.files files.old) name ports.old (λ f. HasNoReport P.shown D.shown f ports.old ports.new desk.old desk.new)) }
 
     // The text of the file has a fault, and the first is told; or it has more workers than there are ports.
     ensures faulty { result ≡ 3 → ((name : List ℕ) × (IsCheck name (map string_bytes words.now) ⊎ IsRun name (map string_bytes words.now)) × WasFaulty (F.files files.old) name (K.written out.old) (K.written out.new) (K.faults out.old) (K.faults out.new))
@@ -84,19 +83,19 @@ pub fn stampd<R: Threads + Sync, S: Source, K: Sink, F: Files, P: Port + Send, D
     // A write failed: a front of what was due was written.
     ensures output { result ≡ 8 → (IsReplay (map string_bytes words.now) × WasStopped (S.left input.old) (S.left input.new) (K.written out.old) (K.written out.new))
         ⊎ ((name : List ℕ) × IsCheck name (map string_bytes words.now) × WasCutShort (F.files files.old) name (K.written out.old) (K.written out.new))
-        ⊎ ((name : List ℕ) × IsRun name (map string_bytes words.now) × OfFile (F.files files.old) name ports.old (λ f. HasLostReport P.shown (desk_view D.log D.coming D.made D.faults) f ports.old ports.new desk.old desk.new (K.written out.old) (K.written out.new) (K.faults out.old) (K.faults out.new)))
+        ⊎ ((name : List ℕ) × IsRun name (map string_bytes words.now) × OfFile (F.files files.old) name ports.old (λ f. HasLostReport P.shown D.shown f ports.old ports.new desk.old desk.new (K.written out.old) (K.written out.new) (K.faults out.old) (K.faults out.new)))
         ⊎ ReportWasCut (map string_bytes words.now) (K.written out.old) (K.written out.new) }
     ensures write_fault { result ≡ 8 → Rises (K.faults out.old) (K.faults out.new) }
     ensures no_write_fault { (result ≡ 0) ⊎ (result ≡ 4) ⊎ (result ≡ 6) ⊎ (result ≡ 7) → K.faults out.new ≡ K.faults out.old }
 
     // A port failed to open, or failed too often in a row; the desk did; a worker or the desk made as many calls as the file
     // lets it. Where the reflector served, its report was written before the line.
-    ensures port_failed { result ≡ 9 → (name : List ℕ) × IsRun name (map string_bytes words.now) × OfFile (F.files files.old) name ports.old (λ f. HasClosedPort P.shown ports.old ports.new desk.old desk.new (K.written out.old) (K.written out.new) (K.faults out.old) (K.faults out.new) ⊎ HasServed P.shown (desk_view D.log D.coming D.made D.faults) f ports.old ports.new desk.old desk.new 9 (K.written out.old) (K.written out.new) (K.faults out.old) (K.faults out.new)) }
-    ensures desk_failed { result ≡ 10 → (name : List ℕ) × IsRun name (map string_bytes words.now) × OfFile (F.files files.old) name ports.old (λ f. HasClosedDesk P.shown (desk_view D.log D.coming D.made D.faults) ports.old ports.new desk.old desk.new (K.written out.old) (K.written out.new) (K.faults out.old) (K.faults out.new) ⊎ HasServed P.shown (desk_view D.log D.coming D.made D.faults) f ports.old ports.new desk.old desk.new 10 (K.written out.old) (K.written out.new) (K.faults out.old) (K.faults out.new)) }
-    ensures budget_spent { result ≡ 11 → (name : List ℕ) × IsRun name (map string_bytes words.now) × OfFile (F.files files.old) name ports.old (λ f. HasServed P.shown (desk_view D.log D.coming D.made D.faults) f ports.old ports.new desk.old desk.new 11 (K.written out.old) (K.written out.new) (K.faults out.old) (K.faults out.new)) }
+    ensures port_failed { result ≡ 9 → (name : List ℕ) × IsRun name (map string_bytes words.now) × OfFile (F.files files.old) name ports.old (λ f. HasClosedPort P.shown ports.old ports.new desk.old desk.new (K.written out.old) (K.written out.new) (K.faults out.old) (K.faults out.new) ⊎ HasServed P.shown D.shown f ports.old ports.new desk.old desk.new 9 (K.written out.old) (K.written out.new) (K.faults out.old) (K.faults out.new)) }
+    ensures desk_failed { result ≡ 10 → (name : List ℕ) × IsRun name (map string_bytes words.now) × OfFile (F.files files.old) name ports.old (λ f. HasClosedDesk P.shown D.shown ports.old ports.new desk.old desk.new (K.written out.old) (K.written out.new) (K.faults out.old) (K.faults out.new) ⊎ HasServed P.shown D.shown f ports.old ports.new desk.old desk.new 10 (K.written out.old) (K.written out.new) (K.faults out.old) (K.faults out.new)) }
+    ensures budget_spent { result ≡ 11 → (name : List ℕ) × IsRun name (map string_bytes words.now) × OfFile (F.files files.old) name ports.old (λ f. HasServed P.shown D.shown f ports.old ports.new desk.old desk.new 11 (K.written out.old) (K.written out.new) (K.faults out.old) (K.faults out.new)) }
 
     ensures port_cause { result ≡ 9 → OneHasFailed P.shown ports.old ports.new }
-    ensures desk_cause { result ≡ 10 → HasRisen (D.faults desk.old) (D.faults desk.new) }
+    ensures desk_cause { result ≡ 10 → HasRisen (D.shown desk.old).faults (D.shown desk.new).faults }
 
     // Where nothing fails, a stream is answered, what is none is told so, of a file its content alone decides, and a load is
     // told.
@@ -116,7 +115,7 @@ pub fn stampd<R: Threads + Sync, S: Source, K: Sink, F: Files, P: Port + Send, D
         → (Rises (F.faults files.old) (F.faults files.new) → ⊥) → length text ≤ file_limit → file_in text ≡ Ok f → length ports.old < f.workers → (result ≡ 3) ⊎ (result ≡ 4) }
     ensures served { (fs : List port.File) (name text : List ℕ) (f : File) → F.files files.old ≡ Some fs → content name fs ≡ Some text → IsRun name (map string_bytes words.now)
         → (Rises (F.faults files.old) (F.faults files.new) → ⊥) → length text ≤ file_limit → file_in text ≡ Ok f → f.workers ≤ length ports.old
-        → NothingFails P.shown (desk_view D.log D.coming D.made D.faults) ports.old ports.new desk.old desk.new (K.faults out.old) (K.faults out.new) → (result ≡ 0) ⊎ (result ≡ 4) ⊎ (result ≡ 11) }
+        → NothingFails P.shown D.shown ports.old ports.new desk.old desk.new (K.faults out.old) (K.faults out.new) → (result ≡ 0) ⊎ (result ≡ 4) ⊎ (result ≡ 11) }
 {
     let Some(name) = file_to_run(words) else {
         return offline(alloc, words, input, out, files);

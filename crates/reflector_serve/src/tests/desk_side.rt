@@ -177,15 +177,7 @@ impl Desk for SeatedDesk {
 
     type Setup = ();
 
-    ghost is_open = { λ d. d.desk.is_open };
-
-    ghost coming = { λ d. None };
-
-    ghost log = { λ d. None };
-
-    ghost made = { λ d. tt };
-
-    ghost faults = { λ d. d.desk.faults };
+    ghost shown = { λ d. record { is_open = d.desk.is_open; coming = None; log = None; made = tt; faults = d.desk.faults } };
 
     fn open(
         &mut self,

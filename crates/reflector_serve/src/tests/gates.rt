@@ -200,15 +200,7 @@ impl Desk for GatedDesk {
 
     type Setup = ();
 
-    ghost is_open = { λ desk. desk.is_open };
-
-    ghost coming = { λ desk. None };
-
-    ghost log = { λ desk. None };
-
-    ghost made = { λ desk. tt };
-
-    ghost faults = { λ desk. 0 };
+    ghost shown = { λ desk. record { is_open = desk.is_open; coming = None; log = None; made = tt; faults = 0 } };
 
     fn open(
         &mut self,

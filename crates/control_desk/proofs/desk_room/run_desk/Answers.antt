@@ -23,7 +23,7 @@ returns-clause-run g c =
       acts = run.acts;
       leads = subst (λ (r : Room). Leads (desk_plan r.setting c.args.turns 0 r.state) run.acts (stop c.hear_all-end.result)) c.room.view_is run.leads;
       written = grows_then _ _ _ (entries_in run.acts) (finished ∷ [])
-          (subst (λ (d : _). Grows (g.D.Desk.log c.args.desk.now) (g.D.Desk.log d) (entries_in run.acts)) (search (same.desk, rules)) (log_grows run.acts _ _ run.shown)) c.finish.ensures.log;
+          (subst (λ (d : _). Grows (g.D.Desk.shown c.args.desk.now).log (g.D.Desk.shown d).log (entries_in run.acts)) (search (same.desk, rules)) (log_grows run.acts _ _ run.shown)) c.finish.ensures.log;
       made = subst (λ (b : Book). MakesAll c.args.table.now run.acts c.args.book.now b) (search (same.book, rules)) run.made;
       counted = subst (λ (n : Counts). n ≡ counts_after no_counts run.acts) (search (same.counts, rules)) run.counted;
     }
@@ -55,15 +55,15 @@ returns-clause-faults g c =
     let run = c.hear_all-end.ensures.done in
     let same = c.hear_all-end.ensures.same in
     let told = faults_told run.acts _ _ no_counts refl run.shown in
-    let old = g.D.Desk.faults c.args.desk.now in
+    let old = (g.D.Desk.shown c.args.desk.now).faults in
     let n = c.hear_all-end.new.hands.counts.now in
-    subst (λ (k : ℕ). AreFaultsTold old (g.D.Desk.faults c.finish.new.self) k) (search (same.counts, rules))
+    subst (λ (k : ℕ). AreFaultsTold old (g.D.Desk.shown c.finish.new.self).faults k) (search (same.counts, rules))
     (subst (λ (new : ℕ). AreFaultsTold old new n.faults) (sym c.finish.ensures.still)
-    (subst (λ (d : _). AreFaultsTold old (g.D.Desk.faults d) n.faults) (search (same.desk, rules))
-    (subst (λ (m : Counts). AreFaultsTold old (g.D.Desk.faults c.hear_all-end.new.hands.desk.now) m.faults) (sym run.counted) told)))
+    (subst (λ (d : _). AreFaultsTold old (g.D.Desk.shown d).faults n.faults) (search (same.desk, rules))
+    (subst (λ (m : Counts). AreFaultsTold old (g.D.Desk.shown c.hear_all-end.new.hands.desk.now).faults m.faults) (sym run.counted) told)))
 
 pub returns-clause-made : goal.returns-clause-made
 returns-clause-made g c =
     let run = c.hear_all-end.ensures.done in
     let same = c.hear_all-end.ensures.same in
-    c.finish.ensures.made ∙ subst (λ (d : _). g.D.Desk.made d ≡ g.D.Desk.made c.args.desk.now) (search (same.desk, rules)) (made_stays run.acts _ _ run.shown)
+    c.finish.ensures.made ∙ subst (λ (d : _). (g.D.Desk.shown d).made ≡ (g.D.Desk.shown c.args.desk.now).made) (search (same.desk, rules)) (made_stays run.acts _ _ run.shown)

@@ -17,7 +17,7 @@ loop-index-init g c = record {
       let all = c.live_len-all.result in
       let whole : all ≡ all - 0 = omega arith in
       follows_to (ap (list_from c.args.conn s next all 0) whole)
-      (follows_called (live_len plan) (plan all) (tells_length all) (g.D.Shown.shown c.args.hands.now.desk.now) {n = c.args.hands.now.counts.now} refl (c.live_len-all.ensures c.args.hands.now.table.now) refl);
+      (follows_called (live_len plan) (plan all) (tells_length all) (g.D.Shown.seen c.args.hands.now.desk.now) {n = c.args.hands.now.counts.now} refl (c.live_len-all.ensures c.args.hands.now.table.now) refl);
 }
 
 pub returns-then-not-list_one-clause-done : goal.returns-then-not-list_one-clause-done

@@ -12,7 +12,7 @@ invariant-loop-index g l = record {
   book : IsBookOf l.hands.table.now l.hands.book.now;
   within : l.index ≤ l.all;
   done : (s : DeskState) (next : Next) →
-      Works g.D.Shown.shown (live_len (λ all. list_from l.conn s next all 0 all)) (list_from l.conn s next l.all l.index (l.all - l.index)) l.fn.hands l.hands;
+      Works g.D.Shown.seen (live_len (λ all. list_from l.conn s next all 0 all)) (list_from l.conn s next l.all l.index (l.all - l.index)) l.fn.hands l.hands;
 }
 
 abbrev pub decreases-loop-index : goal.decreases-loop-index

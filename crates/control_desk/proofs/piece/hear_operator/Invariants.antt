@@ -10,5 +10,5 @@ invariant-loop-octet g l = record {
   same : AreSame l.fn.hands l.hands;
   book : IsBookOf l.hands.table.now l.hands.book.now;
   done : (s : DeskState) (next : Next) →
-      Works g.D.Shown.shown (operator_plan l.setting l.heard.conn l.heard.now (at_names s l.fn.names) next l.fn.line l.octets) (operator_plan l.setting l.heard.conn l.heard.now (at_names s l.names) next l.line (drop l.octet-index l.octets)) l.fn.hands l.hands;
+      Works g.D.Shown.seen (operator_plan l.setting l.heard.conn l.heard.now (at_names s l.fn.names) next l.fn.line l.octets) (operator_plan l.setting l.heard.conn l.heard.now (at_names s l.names) next l.line (drop l.octet-index l.octets)) l.fn.hands l.hands;
 }

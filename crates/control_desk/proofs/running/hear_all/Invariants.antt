@@ -11,7 +11,7 @@ invariant-loop-left g l = record {
   book : IsBookOf l.hands.table.now l.hands.book.now;
   within : l.failed + l.left ≤ l.turns;
   done :
-      Works g.D.Shown.shown (desk_plan l.setting l.turns 0 (state_of l.fn.places)) (desk_plan l.setting l.left l.failed (state_of l.places)) l.fn.hands l.hands;
+      Works g.D.Shown.seen (desk_plan l.setting l.turns 0 (state_of l.fn.places)) (desk_plan l.setting l.left l.failed (state_of l.places)) l.fn.hands l.hands;
 }
 
 abbrev pub decreases-loop-left : goal.decreases-loop-left

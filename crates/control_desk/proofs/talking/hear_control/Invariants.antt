@@ -12,7 +12,7 @@ invariant-loop-at g l = record {
   book : IsBookOf l.hands.table.now l.hands.book.now;
   within : l.at ≤ length l.octets;
   done : (more : ControlSide → Plan) (gone : Plan) →
-      Works g.D.Shown.shown (control_plan l.setting l.heard.conn l.heard.now more gone l.fn.side l.octets) (control_plan l.setting l.heard.conn l.heard.now more gone l.side (drop l.at l.octets)) l.fn.hands l.hands;
+      Works g.D.Shown.seen (control_plan l.setting l.heard.conn l.heard.now more gone l.fn.side l.octets) (control_plan l.setting l.heard.conn l.heard.now more gone l.side (drop l.at l.octets)) l.fn.hands l.hands;
 }
 
 abbrev pub decreases-loop-at : goal.decreases-loop-at

@@ -15,7 +15,7 @@ invariant-loop-at g l = record {
   within : l.at ≤ length l.places.connections.items;
   state : state_of l.places ≡ at_connections (state_of l.fn.places) l.places.connections.items;
   done : (next : List OpenConnection → Plan) →
-      Works g.D.Shown.shown (idle_plan l.now next [] l.fn.places.connections.items) (idle_plan l.now next (take l.at l.places.connections.items) (drop l.at l.places.connections.items)) l.fn.hands l.hands;
+      Works g.D.Shown.seen (idle_plan l.now next [] l.fn.places.connections.items) (idle_plan l.now next (take l.at l.places.connections.items) (drop l.at l.places.connections.items)) l.fn.hands l.hands;
 }
 
 abbrev pub decreases-loop-at : goal.decreases-loop-at

@@ -1,12 +1,11 @@
 use Rattle.std.proofs.Common.{◌≡◌, ◌⊎◌, inl, inr, arith}
-use Rattle.reflector_serve.specs.Served.{desk_view}
 use Rattle.file_service.proofs.Causes.{run_failed, desk_run_failed, none_failed, served_with}
 use Rattle.file_service.proofs.service.serve_conf.Goals as goal
 
 pub returns-in-Ok-clause-done : goal.returns-in-Ok-clause-done
 returns-in-Ok-clause-done g c = λ is.
     let v = g.P.Port.shown in
-    let w = desk_view g.D.Desk.log g.D.Desk.coming g.D.Desk.made g.D.Desk.faults in
+    let w = g.D.Desk.shown in
     served_with v w c.args.conf.now c.args.ports.now c.serve.new.ports c.args.desk.now c.serve.new.desk _ _ _ _ c.in-Ok.report 0 c.tell_report.result is (λ h. omega (arith, h)) (λ h. omega (arith, h)) c.in-Ok.ensures.served c.tell_report.ensures.told
 
 pub returns-in-Ok-clause-memory : goal.returns-in-Ok-clause-memory
@@ -20,25 +19,25 @@ returns-in-Ok-clause-lost g c = λ is.
 pub returns-in-Ok-clause-port_failed : goal.returns-in-Ok-clause-port_failed
 returns-in-Ok-clause-port_failed g c = λ is.
     let v = g.P.Port.shown in
-    let w = desk_view g.D.Desk.log g.D.Desk.coming g.D.Desk.made g.D.Desk.faults in
+    let w = g.D.Desk.shown in
     inr (served_with v w c.args.conf.now c.args.ports.now c.serve.new.ports c.args.desk.now c.serve.new.desk _ _ _ _ c.in-Ok.report 9 c.tell_report.result is (λ h. omega (arith, h)) (λ h. omega (arith, h)) c.in-Ok.ensures.served c.tell_report.ensures.told)
 
 pub returns-in-Ok-clause-desk_failed : goal.returns-in-Ok-clause-desk_failed
 returns-in-Ok-clause-desk_failed g c = λ is.
     let v = g.P.Port.shown in
-    let w = desk_view g.D.Desk.log g.D.Desk.coming g.D.Desk.made g.D.Desk.faults in
+    let w = g.D.Desk.shown in
     inr (served_with v w c.args.conf.now c.args.ports.now c.serve.new.ports c.args.desk.now c.serve.new.desk _ _ _ _ c.in-Ok.report 10 c.tell_report.result is (λ h. omega (arith, h)) (λ h. omega (arith, h)) c.in-Ok.ensures.served c.tell_report.ensures.told)
 
 pub returns-in-Ok-clause-budget_spent : goal.returns-in-Ok-clause-budget_spent
 returns-in-Ok-clause-budget_spent g c = λ is.
     let v = g.P.Port.shown in
-    let w = desk_view g.D.Desk.log g.D.Desk.coming g.D.Desk.made g.D.Desk.faults in
+    let w = g.D.Desk.shown in
     served_with v w c.args.conf.now c.args.ports.now c.serve.new.ports c.args.desk.now c.serve.new.desk _ _ _ _ c.in-Ok.report 11 c.tell_report.result is (λ h. omega (arith, h)) (λ h. omega (arith, h)) c.in-Ok.ensures.served c.tell_report.ensures.told
 
 pub returns-in-Ok-clause-port_cause : goal.returns-in-Ok-clause-port_cause
 returns-in-Ok-clause-port_cause g c = λ is.
     let v = g.P.Port.shown in
-    let w = desk_view g.D.Desk.log g.D.Desk.coming g.D.Desk.made g.D.Desk.faults in
+    let w = g.D.Desk.shown in
     let o = c.args.out.now in
     let n = c.tell_report.new.out in
     run_failed v w c.args.conf.now c.args.ports.now c.serve.new.ports c.args.desk.now c.serve.new.desk (g.K.Sink.written o) (g.K.Sink.written n) (g.K.Sink.faults o) (g.K.Sink.faults n)
@@ -47,7 +46,7 @@ returns-in-Ok-clause-port_cause g c = λ is.
 pub returns-in-Ok-clause-desk_cause : goal.returns-in-Ok-clause-desk_cause
 returns-in-Ok-clause-desk_cause g c = λ is.
     let v = g.P.Port.shown in
-    let w = desk_view g.D.Desk.log g.D.Desk.coming g.D.Desk.made g.D.Desk.faults in
+    let w = g.D.Desk.shown in
     let o = c.args.out.now in
     let n = c.tell_report.new.out in
     desk_run_failed v w c.args.conf.now c.args.ports.now c.serve.new.ports c.args.desk.now c.serve.new.desk (g.K.Sink.written o) (g.K.Sink.written n) (g.K.Sink.faults o) (g.K.Sink.faults n)
@@ -56,7 +55,7 @@ returns-in-Ok-clause-desk_cause g c = λ is.
 pub returns-in-Ok-clause-complete : goal.returns-in-Ok-clause-complete
 returns-in-Ok-clause-complete g c = λ none.
     let v = g.P.Port.shown in
-    let w = desk_view g.D.Desk.log g.D.Desk.coming g.D.Desk.made g.D.Desk.faults in
+    let w = g.D.Desk.shown in
     let o = c.args.out.now in
     let n = c.tell_report.new.out in
     elim c.tell_report.ensures.told as (λ _. (c.tell_report.result ≡ 0) ⊎ (c.tell_report.result ≡ 4) ⊎ (c.tell_report.result ≡ 11)) [

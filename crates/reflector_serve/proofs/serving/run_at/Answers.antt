@@ -5,7 +5,7 @@ use Rattle.reflector_serve.proofs.serving.run_at.Goals as goal
 pub returns : goal.returns
 returns g c = let e = c.run_desk.ensures in record {
   went = e.went;
-  ran = subst (λ (n : ℕ). HasRun c.args.table.now c.args.room.now.setting n c.args.room.now.state (g.D.Desk.log c.args.desk.now) (g.D.Desk.log c.run_desk.new.desk) c.args.book.now c.run_desk.new.book c.run_desk.result) c.turns.ensures.value e.run;
+  ran = subst (λ (n : ℕ). HasRun c.args.table.now c.args.room.now.setting n c.args.room.now.state (g.D.Desk.shown c.args.desk.now).log (g.D.Desk.shown c.run_desk.new.desk).log c.args.book.now c.run_desk.new.book c.run_desk.result) c.turns.ensures.value e.run;
   made = e.made;
   faults = e.faults;
 }

@@ -1,6 +1,6 @@
 use Rattle.std.proofs.Common.{rules, ◌<◌, ◌++◌, List, length, sym, subst}
 use Rattle.reflector_serve.specs.Ports.{OneFails}
-use Rattle.reflector_serve.specs.Served.{desk_view, AreQuiet}
+use Rattle.reflector_serve.specs.Served.{AreQuiet}
 use Rattle.reflector_serve.proofs.WideFacts.{wide_quiet, wide_fails}
 use Rattle.reflector_serve.proofs.WholeFacts.{wide_ok}
 use Rattle.reflector_serve.proofs.whole.serve.Goals as goal
@@ -27,5 +27,5 @@ returns-clause-desk_open g c = λ e.
 pub returns-clause-served : goal.returns-clause-served
 returns-clause-served g c =
     let v = g.P.Port.shown in
-    let w = desk_view g.D.Desk.log g.D.Desk.coming g.D.Desk.made g.D.Desk.faults in
+    let w = g.D.Desk.shown in
     wide_ok v w c.args.conf.now c.args.ports.now c.split_at_mut-serving.result.0.now c.serve_at.new.ports c.split_at_mut-serving.result.1.now c.args.desk.now c.serve_at.new.desk c.serve_at.result c.split_at_mut-serving.ensures.value c.serve_at.ensures.served

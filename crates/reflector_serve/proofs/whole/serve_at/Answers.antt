@@ -5,7 +5,6 @@ use Rattle.net_io.specs.Desk.{opened}
 use Rattle.session_desk.specs.Book.{steps_of}
 use Rattle.reflector_serve.specs.Ports.{IsBound, Each}
 use Rattle.reflector_serve.specs.Phases.{Phase, SplitsOff}
-use Rattle.reflector_serve.specs.Served.{desk_view}
 use Rattle.reflector_serve.proofs.BeginFacts.{opened_phase}
 use Rattle.reflector_serve.proofs.QuietFacts.{all_quiet}
 use Rattle.reflector_serve.proofs.WideFacts.{fails_since, all_ready}
@@ -48,7 +47,7 @@ serve_split-requires-clause-book g c κs within = let b = c.open_sessions.new.bo
 pub returns-clause-served : goal.returns-clause-served
 returns-clause-served g c =
     let v = g.P.Port.shown in
-    let w = desk_view g.D.Desk.log g.D.Desk.coming g.D.Desk.made g.D.Desk.faults in
+    let w = g.D.Desk.shown in
     let t = c.in-Ok.table in let f = c.args.conf.now in let b = c.open_sessions.new.book in let moment = c.read_first-moment.result in
     let each : Each (IsBound v f.locals) c.read_first-moment.new.ports c.open_ports.new.ports =
     subst (λ (xs : List Endpoint). Each (IsBound v xs) c.read_first-moment.new.ports c.open_ports.new.ports) c.locals.ensures.value c.in-Ok-open_ports.ensures.bound in
@@ -59,9 +58,9 @@ returns-clause-served g c =
     let m = c.in-Ok-make_rooms.ensures in let n = c.workers-count.ensures.value in
     subst (λ (k : ℕ). SplitsOff t k b c.split_all.new.book) (omega (arith, m, n)) c.split_all.ensures.calls in
     let o = c.in-Ok-open.ensures in
-    let log : Grows (g.D.Desk.log c.args.desk.now) (g.D.Desk.log c.open.new.self) (opened f.control f.operator ∷ []) =
-    subst (λ (x : Option Endpoint). Grows (g.D.Desk.log c.args.desk.now) (g.D.Desk.log c.open.new.self) (opened x f.operator ∷ [])) c.control.ensures.value
-    (subst (λ (x : Option Endpoint). Grows (g.D.Desk.log c.args.desk.now) (g.D.Desk.log c.open.new.self) (opened c.control.result x ∷ [])) c.operator.ensures o.log) in
+    let log : Grows (g.D.Desk.shown c.args.desk.now).log (g.D.Desk.shown c.open.new.self).log (opened f.control f.operator ∷ []) =
+    subst (λ (x : Option Endpoint). Grows (g.D.Desk.shown c.args.desk.now).log (g.D.Desk.shown c.open.new.self).log (opened x f.operator ∷ [])) c.control.ensures.value
+    (subst (λ (x : Option Endpoint). Grows (g.D.Desk.shown c.args.desk.now).log (g.D.Desk.shown c.open.new.self).log (opened c.control.result x ∷ [])) c.operator.ensures o.log) in
     whole_served v w t f c.in-Ok-make.room moment c.args.ports.now c.read_first-moment.new.ports c.open_ports.new.ports c.serve_split.new.ports c.args.desk.now c.open.new.self c.serve_split.new.desk c.in-Ok.book b c.split_all.new.book c.serve_split.new.book c.serve_split.result
     c.in-Ok.ensures.size c.in-Ok.ensures.new c.open_sessions.ensures.opens c.open_sessions.ensures.opened c.law_fits.ensures c.law_rows_stay.ensures splits c.in-Ok-make.ensures c.read_first-moment.ensures each c.requires
     (record { log = log; made = o.made; still = o.still }) (c.serve_split.ensures (steps_of b) (steps_of b) phase)
