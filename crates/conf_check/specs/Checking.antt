@@ -2,6 +2,7 @@
 use Rattle.std.specs.Prelude.{◌≡◌, ◌⊎◌, ℕ, List, length, Option, Result, Ok, Err, if◌then◌else◌, nat_lt}
 use Rattle.std.specs.Io.KnownBytes.{Appends}
 use Rattle.port_io.specs.Outside.{Rises, AppendsFront}
+use Rattle.port_io.specs.SinkShown.{SinkShown}
 use Rattle.port_io.specs.Files as port
 use Rattle.conf_text.specs.Faults.{Fault}
 use Rattle.conf_text.specs.File.{File, file_in}
@@ -10,22 +11,22 @@ use Rattle.conf_check.specs.Loading.{file_limit, IsTooLong, IsAccepted, IsFaulty
 use Rattle.conf_check.specs.Writing.{WritesLine}
 
 -- 0: the file is accepted, and its line was written
-abbrev pub WasAccepted : Option (List port.File) → List ℕ → Option (List ℕ) → Option (List ℕ) → Type 0
-WasAccepted files name written written' = (f : File) × IsAccepted files name f × Appends written written' (accepted_line f)
+abbrev pub WasAccepted : Option (List port.File) → List ℕ → SinkShown → SinkShown → Type 0
+WasAccepted files name old new = (f : File) × IsAccepted files name f × Appends old.written new.written (accepted_line f)
 
 -- 8: the file is accepted, and a front of its line was written
-abbrev pub WasCutShort : Option (List port.File) → List ℕ → Option (List ℕ) → Option (List ℕ) → Type 0
-WasCutShort files name written written' = (f : File) × IsAccepted files name f × AppendsFront written written' (accepted_line f)
+abbrev pub WasCutShort : Option (List port.File) → List ℕ → SinkShown → SinkShown → Type 0
+WasCutShort files name old new = (f : File) × IsAccepted files name f × AppendsFront old.written new.written (accepted_line f)
 
 -- 3: the file has a fault, and the first is told
-abbrev pub WasFaulty : Option (List port.File) → List ℕ → Option (List ℕ) → Option (List ℕ) → ℕ → ℕ → Type 0
-WasFaulty files name written written' faults faults' = (fault : Fault) × IsFaulty files name fault × WritesLine (fault_line fault) written written' faults faults'
+abbrev pub WasFaulty : Option (List port.File) → List ℕ → SinkShown → SinkShown → Type 0
+WasFaulty files name old new = (fault : Fault) × IsFaulty files name fault × WritesLine (fault_line fault) old new
 
 -- 5: the load failed, and the files counted it, or the file is too long; which of the two is told
-abbrev pub WasNotLoaded : Option (List port.File) → List ℕ → ℕ → ℕ → Option (List ℕ) → Option (List ℕ) → ℕ → ℕ → Type 0
-WasNotLoaded files name failed failed' written written' faults faults' =
-    (Rises failed failed' × WritesLine failed_line written written' faults faults')
-    ⊎ (IsTooLong files name × (failed' ≡ failed) × WritesLine too_long_line written written' faults faults')
+abbrev pub WasNotLoaded : Option (List port.File) → List ℕ → ℕ → ℕ → SinkShown → SinkShown → Type 0
+WasNotLoaded files name failed failed' old new =
+    (Rises failed failed' × WritesLine failed_line old new)
+    ⊎ (IsTooLong files name × (failed' ≡ failed) × WritesLine too_long_line old new)
 
 -- the status for a text that was read, and for a content, which may be too long to be read
 abbrev pub read_status : Result File Fault → ℕ

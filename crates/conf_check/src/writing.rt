@@ -11,14 +11,14 @@ use std::alloc::Global;
 
 /// Writes a line. Where a write fails, the rest of the line is dropped.
 pub fn write_line<K: Sink>(out: &mut K, line: &[u8])
-    ensures { WritesLine line.now (K.written out.old) (K.written out.new) (K.faults out.old) (K.faults out.new) }
+    ensures { WritesLine line.now (K.shown out.old) (K.shown out.new) }
 {
     let _written = write_all(out, line);
 }
 
 /// Tells the fault of a text, and gives the status.
 fn write_fault_line<K: Sink>(alloc: Global, fault: &ConfFault, out: &mut K) -> u8
-    ensures { WritesRefusal (Faulty fault.now) result (K.written out.old) (K.written out.new) (K.faults out.old) (K.faults out.new) }
+    ensures { WritesRefusal (Faulty fault.now) result (K.shown out.old) (K.shown out.new) }
 {
     match fault_line(alloc, fault) {
         Ok(line) => {
@@ -32,7 +32,7 @@ fn write_fault_line<K: Sink>(alloc: Global, fault: &ConfFault, out: &mut K) -> u
 /// Tells why a file isn't taken, and gives the status with which the program ends: 3 for a fault of the text, 4 for want of
 /// memory, of which nothing is told, and 5 where the file wasn't loaded.
 pub fn write_refusal<K: Sink>(alloc: Global, refusal: &Refusal, out: &mut K) -> u8
-    ensures { WritesRefusal refusal.now result (K.written out.old) (K.written out.new) (K.faults out.old) (K.faults out.new) }
+    ensures { WritesRefusal refusal.now result (K.shown out.old) (K.shown out.new) }
 {
     match refusal {
         Refusal::Failed => {

@@ -1,6 +1,7 @@
 -- How a run is told to have ended, by its report: the status and the line (this project's own).
-use Rattle.std.specs.Prelude.{◌≡◌, ℕ, Bool, true, false, if◌then◌else◌, List, codes, ◌++◌, Option}
+use Rattle.std.specs.Prelude.{◌≡◌, ℕ, Bool, true, false, if◌then◌else◌, List, codes, ◌++◌}
 use Rattle.std.specs.List.{list_any}
+use Rattle.port_io.specs.SinkShown.{SinkShown}
 use Rattle.conf_check.specs.Lines.{line_end}
 use Rattle.conf_check.specs.Writing.{WritesLine, WritesNothing}
 use Rattle.receive_worker.specs.declared.tally.WorkEnd.{WorkEnd}
@@ -49,8 +50,8 @@ abbrev pub budget_line : List ℕ
 budget_line = codes "stampd: budget spent" ++ line_end
 
 -- the status of an end, and its line; where the line can't be written, the rest of it is dropped and the status stays
-abbrev pub TellsEnd : RunEnd → ℕ → Option (List ℕ) → Option (List ℕ) → ℕ → ℕ → Type 0
-TellsEnd Done status written written' faults faults' = (status ≡ 0) × WritesNothing written written' faults faults'
-TellsEnd PortFailed status written written' faults faults' = (status ≡ 9) × WritesLine port_line written written' faults faults'
-TellsEnd DeskFailed status written written' faults faults' = (status ≡ 10) × WritesLine desk_line written written' faults faults'
-TellsEnd BudgetSpent status written written' faults faults' = (status ≡ 11) × WritesLine budget_line written written' faults faults'
+abbrev pub TellsEnd : RunEnd → ℕ → SinkShown → SinkShown → Type 0
+TellsEnd Done status old new = (status ≡ 0) × WritesNothing old new
+TellsEnd PortFailed status old new = (status ≡ 9) × WritesLine port_line old new
+TellsEnd DeskFailed status old new = (status ≡ 10) × WritesLine desk_line old new
+TellsEnd BudgetSpent status old new = (status ≡ 11) × WritesLine budget_line old new

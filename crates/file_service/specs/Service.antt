@@ -2,6 +2,7 @@
 use Rattle.std.specs.Prelude.{◌≡◌, ℕ, ◌<◌, ◌≤◌, List, length, slice_index_or, Option, codes}
 use Rattle.std.specs.Io.KnownBytes.{Appends}
 use Rattle.port_io.specs.Outside.{counted, Rises, AppendsFront}
+use Rattle.port_io.specs.SinkShown.{SinkShown}
 use Rattle.port_io.specs.Files as port
 use Rattle.conf_text.specs.Faults.{Limit}
 use Rattle.conf_text.specs.File.{File}
@@ -24,45 +25,46 @@ pub record OneHasFailed {P S : Type 0} (v : PortView P S) (ps qs : List P) : Typ
   pub risen : (d : P) → HasRisen (v (slice_index_or ps place d)).faults (v (slice_index_or qs place d)).faults
 
 -- the report was written whole, and then its end was told, with this status
-pub record WritesReport (report : Report) (status : ℕ) (written written' : Option (List ℕ)) (faults faults' : ℕ) : Type 0 where
-  pub reported : Option (List ℕ)
-  pub whole : Appends written reported (report_text report)
-  pub end : TellsEnd (run_end report) status reported written' faults faults'
+pub record WritesReport (report : Report) (status : ℕ) (old new : SinkShown) : Type 0 where
+  pub reported : SinkShown
+  pub whole : Appends old.written reported.written (report_text report)
+  pub still : reported.faults ≡ old.faults
+  pub end : TellsEnd (run_end report) status reported new
 
 -- 0, 9, 10, 11: the reflector served by a file, and the report was written, with the status and the line of its end
-abbrev pub HasServed : {P S D T : Type 0} → PortView P S → DeskView D T → File → List P → List P → D → D → ℕ → Option (List ℕ) → Option (List ℕ) → ℕ → ℕ → Type 0
-HasServed v w f ps qs d e status written written' faults faults' =
-    (report : Report) × Served v w f ps qs d e report × WritesReport report status written written' faults faults'
+abbrev pub HasServed : {P S D T : Type 0} → PortView P S → DeskView D T → File → List P → List P → D → D → ℕ → SinkShown → SinkShown → Type 0
+HasServed v w f ps qs d e status old new =
+    (report : Report) × Served v w f ps qs d e report × WritesReport report status old new
 
 -- 8: the reflector served by a file, and a front of the report was written, since a write failed
-abbrev pub HasLostReport : {P S D T : Type 0} → PortView P S → DeskView D T → File → List P → List P → D → D → Option (List ℕ) → Option (List ℕ) → ℕ → ℕ → Type 0
-HasLostReport v w f ps qs d e written written' faults faults' =
-    (report : Report) × Served v w f ps qs d e report × AppendsFront written written' (report_text report) × Rises faults faults'
+abbrev pub HasLostReport : {P S D T : Type 0} → PortView P S → DeskView D T → File → List P → List P → D → D → SinkShown → SinkShown → Type 0
+HasLostReport v w f ps qs d e old new =
+    (report : Report) × Served v w f ps qs d e report × AppendsFront old.written new.written (report_text report) × Rises old.faults new.faults
 
 -- 4: the reflector served by a file, and there was no memory for the report
 abbrev pub HasNoReport : {P S D T : Type 0} → PortView P S → DeskView D T → File → List P → List P → D → D → Type 0
 HasNoReport v w f ps qs d e = (report : Report) × Served v w f ps qs d e report
 
 -- 9: a port failed to open, which was told; nothing was received or sent
-pub record HasClosedPort {P S D : Type 0} (v : PortView P S) (ps qs : List P) (d e : D) (written written' : Option (List ℕ)) (faults faults' : ℕ) : Type 0 where
+pub record HasClosedPort {P S D : Type 0} (v : PortView P S) (ps qs : List P) (d e : D) (old new : SinkShown) : Type 0 where
   pub quiet : AreQuiet v ps qs
   pub fails : OneFails v ps qs
   pub desk : e ≡ d
-  pub told : WritesLine port_line written written' faults faults'
+  pub told : WritesLine port_line old new
 
 -- 10: the desk failed to open, which was told; nothing was received or sent
-pub record HasClosedDesk {P S D T : Type 0} (v : PortView P S) (w : DeskView D T) (ps qs : List P) (d e : D) (written written' : Option (List ℕ)) (faults faults' : ℕ) : Type 0 where
+pub record HasClosedDesk {P S D T : Type 0} (v : PortView P S) (w : DeskView D T) (ps qs : List P) (d e : D) (old new : SinkShown) : Type 0 where
   pub quiet : AreQuiet v ps qs
   pub desk : HasNotOpened w d e
-  pub told : WritesLine desk_line written written' faults faults'
+  pub told : WritesLine desk_line old new
 
 -- 3: there are fewer ports than the file has workers, which is told
-abbrev pub HasTooFewPorts : File → ℕ → Option (List ℕ) → Option (List ℕ) → ℕ → ℕ → Type 0
-HasTooFewPorts f count written written' faults faults' = (count < f.workers) × WritesLine (fault_line (Limit (codes "workers"))) written written' faults faults'
+abbrev pub HasTooFewPorts : File → ℕ → SinkShown → SinkShown → Type 0
+HasTooFewPorts f count old new = (count < f.workers) × WritesLine (fault_line (Limit (codes "workers"))) old new
 
 -- no write, no port and no call of the desk failed
-pub record NothingFails {P S D T : Type 0} (v : PortView P S) (w : DeskView D T) (ps qs : List P) (d e : D) (faults faults' : ℕ) : Type 0 where
-  pub writes : Rises faults faults' → ⊥
+pub record NothingFails {P S D T : Type 0} (v : PortView P S) (w : DeskView D T) (ps qs : List P) (d e : D) (old new : SinkShown) : Type 0 where
+  pub writes : Rises old.faults new.faults → ⊥
   pub ports : OneHasFailed v ps qs → ⊥
   pub desk_calls : HasRisen (w d).faults (w e).faults → ⊥
 

@@ -71,7 +71,7 @@ const BUDGET_SPENT: &[u8] = b"stampd: budget spent\n";
 
 /// Tells how a run ended, and gives the status.
 pub(crate) fn tell_end<K: Sink>(end: RunEnd, out: &mut K) -> u8
-    ensures { spec.TellsEnd end result (K.written out.old) (K.written out.new) (K.faults out.old) (K.faults out.new) }
+    ensures { spec.TellsEnd end result (K.shown out.old) (K.shown out.new) }
 {
     match end {
         RunEnd::Done => 0,

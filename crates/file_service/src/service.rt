@@ -33,9 +33,9 @@ fn open_conf<F: Files, K: Sink>(
     ensures accepted { IfOk result (λ f. IsAccepted (F.files files.old) name.now f) }
     ensures quiet { IfOk result (λ _. (out.new ≡ out.old) × (F.faults files.new ≡ F.faults files.old)) }
     ensures statuses { (s : ℕ) → result ≡ Err s → (s ≡ 3) ⊎ (s ≡ 4) ⊎ (s ≡ 5) }
-    ensures faulty { result ≡ Err 3 → WasFaulty (F.files files.old) name.now (K.written out.old) (K.written out.new) (K.faults out.old) (K.faults out.new) }
-    ensures memory { result ≡ Err 4 → WritesNothing (K.written out.old) (K.written out.new) (K.faults out.old) (K.faults out.new) }
-    ensures not_loaded { result ≡ Err 5 → WasNotLoaded (F.files files.old) name.now (F.faults files.old) (F.faults files.new) (K.written out.old) (K.written out.new) (K.faults out.old) (K.faults out.new) }
+    ensures faulty { result ≡ Err 3 → WasFaulty (F.files files.old) name.now (K.shown out.old) (K.shown out.new) }
+    ensures memory { result ≡ Err 4 → WritesNothing (K.shown out.old) (K.shown out.new) }
+    ensures not_loaded { result ≡ Err 5 → WasNotLoaded (F.files files.old) name.now (F.faults files.old) (F.faults files.new) (K.shown out.old) (K.shown out.new) }
     ensures no_load_fault { result ≢ Err 5 → F.faults files.new ≡ F.faults files.old }
     ensures kept { F.files files.new ≡ F.files files.old }
 {
@@ -47,8 +47,8 @@ fn open_conf<F: Files, K: Sink>(
 
 /// Tells that the file has more workers than there are ports, and gives the status.
 fn refuse_workers<K: Sink>(alloc: Global, out: &mut K) -> u8
-    ensures { ((result ≡ 3) × WritesLine (fault_line (Limit (codes "workers"))) (K.written out.old) (K.written out.new) (K.faults out.old) (K.faults out.new))
-        ⊎ ((result ≡ 4) × WritesNothing (K.written out.old) (K.written out.new) (K.faults out.old) (K.faults out.new)) }
+    ensures { ((result ≡ 3) × WritesLine (fault_line (Limit (codes "workers"))) (K.shown out.old) (K.shown out.new))
+        ⊎ ((result ≡ 4) × WritesNothing (K.shown out.old) (K.shown out.new)) }
 {
     let Ok(path) = String::from_str(alloc, "workers") else {
         return 4;
@@ -59,9 +59,9 @@ fn refuse_workers<K: Sink>(alloc: Global, out: &mut K) -> u8
 /// Writes the report and tells how the run ended, and gives the status: 4 where there is no memory for the report, and 8
 /// where it can't be written.
 fn tell_report<K: Sink>(alloc: Global, report: &Report, out: &mut K) -> u8
-    ensures memory { result ≡ 4 → WritesNothing (K.written out.old) (K.written out.new) (K.faults out.old) (K.faults out.new) }
-    ensures lost { result ≡ 8 → AppendsFront (K.written out.old) (K.written out.new) (spec.report_text report.now) × Rises (K.faults out.old) (K.faults out.new) }
-    ensures told { (result ≡ 4) ⊎ (result ≡ 8) ⊎ WritesReport report.now result (K.written out.old) (K.written out.new) (K.faults out.old) (K.faults out.new) }
+    ensures memory { result ≡ 4 → WritesNothing (K.shown out.old) (K.shown out.new) }
+    ensures lost { result ≡ 8 → AppendsFront (K.shown out.old).written (K.shown out.new).written (spec.report_text report.now) × Rises (K.shown out.old).faults (K.shown out.new).faults }
+    ensures told { (result ≡ 4) ⊎ (result ≡ 8) ⊎ WritesReport report.now result (K.shown out.old) (K.shown out.new) }
 {
     let Ok(text) = write_report(alloc, &report.workers, &report.desk, report.live) else {
         return 4;
@@ -83,15 +83,15 @@ fn serve_conf<R: Threads + Sync, K: Sink, P: Port + Send, D: Desk>(
 ) -> u8
     requires { conf.now.workers ≤ length ports.old }
     ensures statuses { (result ≡ 0) ⊎ (result ≡ 4) ⊎ (result ≡ 8) ⊎ (result ≡ 9) ⊎ (result ≡ 10) ⊎ (result ≡ 11) }
-    ensures done { result ≡ 0 → HasServed P.shown D.shown conf.now ports.old ports.new desk.old desk.new 0 (K.written out.old) (K.written out.new) (K.faults out.old) (K.faults out.new) }
-    ensures memory { result ≡ 4 → WritesNothing (K.written out.old) (K.written out.new) (K.faults out.old) (K.faults out.new) × (((ports.new ≡ ports.old) × (desk.new ≡ desk.old)) ⊎ HasNoReport P.shown D.shown conf.now ports.old ports.new desk.old desk.new) }
-    ensures lost { result ≡ 8 → HasLostReport P.shown D.shown conf.now ports.old ports.new desk.old desk.new (K.written out.old) (K.written out.new) (K.faults out.old) (K.faults out.new) }
-    ensures port_failed { result ≡ 9 → HasClosedPort P.shown ports.old ports.new desk.old desk.new (K.written out.old) (K.written out.new) (K.faults out.old) (K.faults out.new) ⊎ HasServed P.shown D.shown conf.now ports.old ports.new desk.old desk.new 9 (K.written out.old) (K.written out.new) (K.faults out.old) (K.faults out.new) }
-    ensures desk_failed { result ≡ 10 → HasClosedDesk P.shown D.shown ports.old ports.new desk.old desk.new (K.written out.old) (K.written out.new) (K.faults out.old) (K.faults out.new) ⊎ HasServed P.shown D.shown conf.now ports.old ports.new desk.old desk.new 10 (K.written out.old) (K.written out.new) (K.faults out.old) (K.faults out.new) }
-    ensures budget_spent { result ≡ 11 → HasServed P.shown D.shown conf.now ports.old ports.new desk.old desk.new 11 (K.written out.old) (K.written out.new) (K.faults out.old) (K.faults out.new) }
+    ensures done { result ≡ 0 → HasServed P.shown D.shown conf.now ports.old ports.new desk.old desk.new 0 (K.shown out.old) (K.shown out.new) }
+    ensures memory { result ≡ 4 → WritesNothing (K.shown out.old) (K.shown out.new) × (((ports.new ≡ ports.old) × (desk.new ≡ desk.old)) ⊎ HasNoReport P.shown D.shown conf.now ports.old ports.new desk.old desk.new) }
+    ensures lost { result ≡ 8 → HasLostReport P.shown D.shown conf.now ports.old ports.new desk.old desk.new (K.shown out.old) (K.shown out.new) }
+    ensures port_failed { result ≡ 9 → HasClosedPort P.shown ports.old ports.new desk.old desk.new (K.shown out.old) (K.shown out.new) ⊎ HasServed P.shown D.shown conf.now ports.old ports.new desk.old desk.new 9 (K.shown out.old) (K.shown out.new) }
+    ensures desk_failed { result ≡ 10 → HasClosedDesk P.shown D.shown ports.old ports.new desk.old desk.new (K.shown out.old) (K.shown out.new) ⊎ HasServed P.shown D.shown conf.now ports.old ports.new desk.old desk.new 10 (K.shown out.old) (K.shown out.new) }
+    ensures budget_spent { result ≡ 11 → HasServed P.shown D.shown conf.now ports.old ports.new desk.old desk.new 11 (K.shown out.old) (K.shown out.new) }
     ensures port_cause { result ≡ 9 → OneHasFailed P.shown ports.old ports.new }
     ensures desk_cause { result ≡ 10 → HasRisen (D.shown desk.old).faults (D.shown desk.new).faults }
-    ensures complete { NothingFails P.shown D.shown ports.old ports.new desk.old desk.new (K.faults out.old) (K.faults out.new) → (result ≡ 0) ⊎ (result ≡ 4) ⊎ (result ≡ 11) }
+    ensures complete { NothingFails P.shown D.shown ports.old ports.new desk.old desk.new (K.shown out.old) (K.shown out.new) → (result ≡ 0) ⊎ (result ≡ 4) ⊎ (result ≡ 11) }
 {
     match serve(rt, alloc, conf, ports, desk) {
         Ok(report) => tell_report(alloc, &report, out),
@@ -120,19 +120,19 @@ pub fn run_file<R: Threads + Sync, K: Sink, F: Files, P: Port + Send, D: Desk>(
     ensures no_load_fault { result ≢ 5 → F.faults files.new ≡ F.faults files.old }
 
     // Nothing was served: the file's text has a fault, or it has more workers than there are ports, or it wasn't loaded.
-    ensures faulty { result ≡ 3 → WasFaulty (F.files files.old) name.now (K.written out.old) (K.written out.new) (K.faults out.old) (K.faults out.new)
-        ⊎ ((f : File) × IsAccepted (F.files files.old) name.now f × HasTooFewPorts f (length ports.old) (K.written out.old) (K.written out.new) (K.faults out.old) (K.faults out.new)) }
-    ensures not_loaded { result ≡ 5 → WasNotLoaded (F.files files.old) name.now (F.faults files.old) (F.faults files.new) (K.written out.old) (K.written out.new) (K.faults out.old) (K.faults out.new) }
+    ensures faulty { result ≡ 3 → WasFaulty (F.files files.old) name.now (K.shown out.old) (K.shown out.new)
+        ⊎ ((f : File) × IsAccepted (F.files files.old) name.now f × HasTooFewPorts f (length ports.old) (K.shown out.old) (K.shown out.new)) }
+    ensures not_loaded { result ≡ 5 → WasNotLoaded (F.files files.old) name.now (F.faults files.old) (F.faults files.new) (K.shown out.old) (K.shown out.new) }
     ensures untouched { (result ≡ 3) ⊎ (result ≡ 5) → (ports.new ≡ ports.old) × (desk.new ≡ desk.old) }
-    ensures memory { result ≡ 4 → WritesNothing (K.written out.old) (K.written out.new) (K.faults out.old) (K.faults out.new) }
+    ensures memory { result ≡ 4 → WritesNothing (K.shown out.old) (K.shown out.new) }
     ensures memory_served { result ≡ 4 → ((ports.new ≡ ports.old) × (desk.new ≡ desk.old)) ⊎ OfFile (F.files files.old) name.now ports.old (λ f. HasNoReport P.shown D.shown f ports.old ports.new desk.old desk.new) }
 
     // The file was served, and its report written.
-    ensures done { result ≡ 0 → OfFile (F.files files.old) name.now ports.old (λ f. HasServed P.shown D.shown f ports.old ports.new desk.old desk.new 0 (K.written out.old) (K.written out.new) (K.faults out.old) (K.faults out.new)) }
-    ensures lost { result ≡ 8 → OfFile (F.files files.old) name.now ports.old (λ f. HasLostReport P.shown D.shown f ports.old ports.new desk.old desk.new (K.written out.old) (K.written out.new) (K.faults out.old) (K.faults out.new)) }
-    ensures port_failed { result ≡ 9 → OfFile (F.files files.old) name.now ports.old (λ f. HasClosedPort P.shown ports.old ports.new desk.old desk.new (K.written out.old) (K.written out.new) (K.faults out.old) (K.faults out.new) ⊎ HasServed P.shown D.shown f ports.old ports.new desk.old desk.new 9 (K.written out.old) (K.written out.new) (K.faults out.old) (K.faults out.new)) }
-    ensures desk_failed { result ≡ 10 → OfFile (F.files files.old) name.now ports.old (λ f. HasClosedDesk P.shown D.shown ports.old ports.new desk.old desk.new (K.written out.old) (K.written out.new) (K.faults out.old) (K.faults out.new) ⊎ HasServed P.shown D.shown f ports.old ports.new desk.old desk.new 10 (K.written out.old) (K.written out.new) (K.faults out.old) (K.faults out.new)) }
-    ensures budget_spent { result ≡ 11 → OfFile (F.files files.old) name.now ports.old (λ f. HasServed P.shown D.shown f ports.old ports.new desk.old desk.new 11 (K.written out.old) (K.written out.new) (K.faults out.old) (K.faults out.new)) }
+    ensures done { result ≡ 0 → OfFile (F.files files.old) name.now ports.old (λ f. HasServed P.shown D.shown f ports.old ports.new desk.old desk.new 0 (K.shown out.old) (K.shown out.new)) }
+    ensures lost { result ≡ 8 → OfFile (F.files files.old) name.now ports.old (λ f. HasLostReport P.shown D.shown f ports.old ports.new desk.old desk.new (K.shown out.old) (K.shown out.new)) }
+    ensures port_failed { result ≡ 9 → OfFile (F.files files.old) name.now ports.old (λ f. HasClosedPort P.shown ports.old ports.new desk.old desk.new (K.shown out.old) (K.shown out.new) ⊎ HasServed P.shown D.shown f ports.old ports.new desk.old desk.new 9 (K.shown out.old) (K.shown out.new)) }
+    ensures desk_failed { result ≡ 10 → OfFile (F.files files.old) name.now ports.old (λ f. HasClosedDesk P.shown D.shown ports.old ports.new desk.old desk.new (K.shown out.old) (K.shown out.new) ⊎ HasServed P.shown D.shown f ports.old ports.new desk.old desk.new 10 (K.shown out.old) (K.shown out.new)) }
+    ensures budget_spent { result ≡ 11 → OfFile (F.files files.old) name.now ports.old (λ f. HasServed P.shown D.shown f ports.old ports.new desk.old desk.new 11 (K.shown out.old) (K.shown out.new)) }
     ensures port_cause { result ≡ 9 → OneHasFailed P.shown ports.old ports.new }
     ensures desk_cause { result ≡ 10 → HasRisen (D.shown desk.old).faults (D.shown desk.new).faults }
 
@@ -144,7 +144,7 @@ pub fn run_file<R: Threads + Sync, K: Sink, F: Files, P: Port + Send, D: Desk>(
         → length text ≤ file_limit → file_in text ≡ Ok f → length ports.old < f.workers → (result ≡ 3) ⊎ (result ≡ 4) }
     ensures complete { (fs : List port.File) (text : List ℕ) (f : File) → F.files files.old ≡ Some fs → content name.now fs ≡ Some text → (Rises (F.faults files.old) (F.faults files.new) → ⊥)
         → length text ≤ file_limit → file_in text ≡ Ok f → f.workers ≤ length ports.old
-        → NothingFails P.shown D.shown ports.old ports.new desk.old desk.new (K.faults out.old) (K.faults out.new) → (result ≡ 0) ⊎ (result ≡ 4) ⊎ (result ≡ 11) }
+        → NothingFails P.shown D.shown ports.old ports.new desk.old desk.new (K.shown out.old) (K.shown out.new) → (result ≡ 0) ⊎ (result ≡ 4) ⊎ (result ≡ 11) }
 {
     let conf = match open_conf(alloc, name, files, out) {
         Ok(conf) => conf,

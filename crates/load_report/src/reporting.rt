@@ -33,11 +33,11 @@ fn report_text(alloc: Global, seed: u64, count: u32) -> Result<String, Memory>
 pub fn report_load<K: Sink>(alloc: Global, seed: u64, count: u32, out: &mut K) -> u8
     requires { count ≤ count_limit }
     ensures statuses { (result ≡ 0) ⊎ (result ≡ 4) ⊎ (result ≡ 8) }
-    ensures done { result ≡ 0 → Appends (K.written out.old) (K.written out.new) (report seed count) }
-    ensures memory { result ≡ 4 → Keeps (K.written out.old) (K.written out.new) }
-    ensures cut_short { result ≡ 8 → AppendsFront (K.written out.old) (K.written out.new) (report seed count) }
-    ensures write_fault { result ≡ 8 → Rises (K.faults out.old) (K.faults out.new) }
-    ensures no_write_fault { (result ≡ 0) ⊎ (result ≡ 4) → K.faults out.new ≡ K.faults out.old }
+    ensures done { result ≡ 0 → Appends (K.shown out.old).written (K.shown out.new).written (report seed count) }
+    ensures memory { result ≡ 4 → Keeps (K.shown out.old).written (K.shown out.new).written }
+    ensures cut_short { result ≡ 8 → AppendsFront (K.shown out.old).written (K.shown out.new).written (report seed count) }
+    ensures write_fault { result ≡ 8 → Rises (K.shown out.old).faults (K.shown out.new).faults }
+    ensures no_write_fault { (result ≡ 0) ⊎ (result ≡ 4) → (K.shown out.new).faults ≡ (K.shown out.old).faults }
 {
     let Ok(text) = report_text(alloc, seed, count) else {
         return 4;

@@ -3,3 +3,4 @@ pub mod Memory
 pub mod Standard
 pub mod Files
 pub mod MemFiles
+pub mod SinkShown

@@ -138,9 +138,7 @@ impl Sink for MemSink {
     ghost use Rattle.port_io.specs.Outside.{Rises};
     ghost use Rattle.port_io.specs.Memory.{SinkState, next_fails, sink_written, sink_failed};
 
-    ghost written = { λ s. Some s.written };
-
-    ghost faults = { λ s. s.faults };
+    ghost shown = { λ s. record { written = Some s.written; faults = s.faults } };
 
     fn write(&mut self, octets: &[u8]) -> Result<usize, Failed>
         ensures bound { IfOk result (λ n. n ≤ length octets.now) }

@@ -3,6 +3,7 @@
 ghost use Rattle.std.specs.Prelude.{◌≡◌, ℕ, ◌<◌, ◌≤◌, List, Option, length, IfOk, OnOk, OnErr};
 ghost use Rattle.std.specs.Io.KnownBytes.{ReadConsumes, WriteAppends, Appends};
 ghost use Rattle.port_io.specs.Outside.{Rises, AppendsFront, counted};
+ghost use Rattle.port_io.specs.SinkShown.{SinkShown};
 
 /// A call of the outside failed, and the object counted it.
 #[derive(Clone, Copy, Debug, PartialEq, Eq)]
@@ -35,28 +36,26 @@ pub trait Source {
 
 /// Where octets go.
 pub trait Sink {
-    // The octets written, where this is told.
-    ghost written: { Self → Option (List ℕ) };
-    // How often it has failed.
-    ghost faults: { Self → ℕ };
+    // What it shows of itself.
+    ghost shown: { Self → SinkShown };
 
     /// Writes octets from the front of a piece, at least one where there is one. A write that fails takes none, and is
     /// counted; one that doesn't fail is not.
     fn write(&mut self, octets: &[u8]) -> Result<usize, Failed>
         ensures bound { IfOk result (λ n. n ≤ length octets.now) }
         ensures some { IfOk result (λ n. 0 < length octets.now → 0 < n) }
-        ensures octets { WriteAppends (written self.old) (written self.new) result octets.now }
-        ensures still { OnOk result (faults self.new ≡ faults self.old) }
-        ensures cause { OnErr result (Rises (faults self.old) (faults self.new)) };
+        ensures octets { WriteAppends (shown self.old).written (shown self.new).written result octets.now }
+        ensures still { OnOk result ((shown self.new).faults ≡ (shown self.old).faults) }
+        ensures cause { OnErr result (Rises (shown self.old).faults (shown self.new).faults) };
 }
 
 /// Writes all of the octets, unless a write fails; then a front of them was written.
 #[tactic(auto, using(crate::proofs::Known::appends_front))]
 pub fn write_all<K: Sink>(out: &mut K, octets: &[u8]) -> Result<(), Failed>
-    ensures all { OnOk result (Appends (K.written out.old) (K.written out.new) octets.now) }
-    ensures front { OnErr result (AppendsFront (K.written out.old) (K.written out.new) octets.now) }
-    ensures still { OnOk result (K.faults out.new ≡ K.faults out.old) }
-    ensures cause { OnErr result (Rises (K.faults out.old) (K.faults out.new)) }
+    ensures all { OnOk result (Appends (K.shown out.old).written (K.shown out.new).written octets.now) }
+    ensures front { OnErr result (AppendsFront (K.shown out.old).written (K.shown out.new).written octets.now) }
+    ensures still { OnOk result ((K.shown out.new).faults ≡ (K.shown out.old).faults) }
+    ensures cause { OnErr result (Rises (K.shown out.old).faults (K.shown out.new).faults) }
 {
     let mut at = 0;
     while at < octets.len() {

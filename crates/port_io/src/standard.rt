@@ -87,9 +87,7 @@ impl<'a, P: Print> StdSink<Printer<'a, P>> {
 }
 
 impl<W: Write + Drop> Sink for StdSink<W> {
-    ghost written = { λ s. W.contents s.inner };
-
-    ghost faults = { λ s. s.faults };
+    ghost shown = { λ s. record { written = W.contents s.inner; faults = s.faults } };
 
     fn write(&mut self, octets: &[u8]) -> Result<usize, Failed>
         ensures bound { IfOk result (λ n. n ≤ length octets.now) }

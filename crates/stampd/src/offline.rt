@@ -43,10 +43,10 @@ pub enum ReplayEnd {
 /// Writes where the stream left its grammar, behind what is due.
 fn leave<K: Sink>(outbox: &mut Outbox, out: &mut K, offset: u64) -> ReplayEnd
     ensures ends { (result ≡ ReplayEnd.Grammar) ⊎ (result ≡ ReplayEnd.Output) }
-    ensures grammar { result ≡ ReplayEnd.Grammar → Appends (K.written out.old) (K.written out.new) (due outbox.old ++ answer_octets (Left offset)) }
-    ensures output { result ≡ ReplayEnd.Output → AppendsFront (K.written out.old) (K.written out.new) (due outbox.old ++ answer_octets (Left offset)) }
-    ensures still { result ≡ ReplayEnd.Grammar → K.faults out.new ≡ K.faults out.old }
-    ensures cause { result ≡ ReplayEnd.Output → Rises (K.faults out.old) (K.faults out.new) }
+    ensures grammar { result ≡ ReplayEnd.Grammar → Appends (K.shown out.old).written (K.shown out.new).written (due outbox.old ++ answer_octets (Left offset)) }
+    ensures output { result ≡ ReplayEnd.Output → AppendsFront (K.shown out.old).written (K.shown out.new).written (due outbox.old ++ answer_octets (Left offset)) }
+    ensures still { result ≡ ReplayEnd.Grammar → (K.shown out.new).faults ≡ (K.shown out.old).faults }
+    ensures cause { result ≡ ReplayEnd.Output → Rises (K.shown out.old).faults (K.shown out.new).faults }
 {
     let Ok(()) = outbox.make_room(out) else {
         return ReplayEnd::Output;
@@ -60,15 +60,15 @@ fn leave<K: Sink>(outbox: &mut Outbox, out: &mut K, offset: u64) -> ReplayEnd
 
 /// Answers the records of the source, one after the other.
 pub fn replay<S: Source, K: Sink>(alloc: Global, input: &mut S, out: &mut K) -> ReplayEnd
-    ensures done { result ≡ ReplayEnd.Done → IsDone (S.left input.old) (S.left input.new) (K.written out.old) (K.written out.new) }
-    ensures memory { result ≡ ReplayEnd.Memory → IsUntouched (S.left input.old) (S.left input.new) (K.written out.old) (K.written out.new) }
-    ensures grammar { result ≡ ReplayEnd.Grammar → HasLeft (S.left input.old) (S.left input.new) (K.written out.old) (K.written out.new) }
-    ensures input { result ≡ ReplayEnd.Input → WasCutOff (S.left input.old) (S.left input.new) (K.written out.old) (K.written out.new) }
+    ensures done { result ≡ ReplayEnd.Done → IsDone (S.left input.old) (S.left input.new) (K.shown out.old).written (K.shown out.new).written }
+    ensures memory { result ≡ ReplayEnd.Memory → IsUntouched (S.left input.old) (S.left input.new) (K.shown out.old).written (K.shown out.new).written }
+    ensures grammar { result ≡ ReplayEnd.Grammar → HasLeft (S.left input.old) (S.left input.new) (K.shown out.old).written (K.shown out.new).written }
+    ensures input { result ≡ ReplayEnd.Input → WasCutOff (S.left input.old) (S.left input.new) (K.shown out.old).written (K.shown out.new).written }
     ensures read_fault { result ≡ ReplayEnd.Input → Rises (S.faults input.old) (S.faults input.new) }
     ensures no_read_fault { result ≢ ReplayEnd.Input → S.faults input.new ≡ S.faults input.old }
-    ensures output { result ≡ ReplayEnd.Output → WasStopped (S.left input.old) (S.left input.new) (K.written out.old) (K.written out.new) }
-    ensures write_fault { result ≡ ReplayEnd.Output → Rises (K.faults out.old) (K.faults out.new) }
-    ensures no_write_fault { result ≢ ReplayEnd.Output → K.faults out.new ≡ K.faults out.old }
+    ensures output { result ≡ ReplayEnd.Output → WasStopped (S.left input.old) (S.left input.new) (K.shown out.old).written (K.shown out.new).written }
+    ensures write_fault { result ≡ ReplayEnd.Output → Rises (K.shown out.old).faults (K.shown out.new).faults }
+    ensures no_write_fault { result ≢ ReplayEnd.Output → (K.shown out.new).faults ≡ (K.shown out.old).faults }
 {
     let Ok(mut ahead) = ReadAhead::make(alloc) else {
         return ReplayEnd::Memory;
@@ -133,7 +133,7 @@ pub fn offline<S: Source, K: Sink, F: Files>(
 
     // The words are no command.
     ensures usage { result ≡ 2 → (IsCommand (map string_bytes words.now) → ⊥)
-        × WritesLine usage (K.written out.old) (K.written out.new) (K.faults out.old) (K.faults out.new) }
+        × WritesLine usage (K.shown out.old) (K.shown out.new) }
     ensures command { result ≢ 2 → IsCommand (map string_bytes words.now) }
 
     // Only `replay` reads the input, and no command changes a file.
@@ -142,45 +142,45 @@ pub fn offline<S: Source, K: Sink, F: Files>(
 
     // All that the source held is records, and just their answers were written; or the file is accepted; or the lines of the
     // load were written.
-    ensures done { result ≡ 0 → (IsReplay (map string_bytes words.now) × IsDone (S.left input.old) (S.left input.new) (K.written out.old) (K.written out.new))
-        ⊎ ((name : List ℕ) × IsCheck name (map string_bytes words.now) × WasAccepted (F.files files.old) name (K.written out.old) (K.written out.new))
-        ⊎ WasReported (map string_bytes words.now) (K.written out.old) (K.written out.new) }
-    ensures memory { result ≡ 4 → IsUntouched (S.left input.old) (S.left input.new) (K.written out.old) (K.written out.new) }
+    ensures done { result ≡ 0 → (IsReplay (map string_bytes words.now) × IsDone (S.left input.old) (S.left input.new) (K.shown out.old).written (K.shown out.new).written)
+        ⊎ ((name : List ℕ) × IsCheck name (map string_bytes words.now) × WasAccepted (F.files files.old) name (K.shown out.old) (K.shown out.new))
+        ⊎ WasReported (map string_bytes words.now) (K.shown out.old) (K.shown out.new) }
+    ensures memory { result ≡ 4 → IsUntouched (S.left input.old) (S.left input.new) (K.shown out.old).written (K.shown out.new).written }
 
     // The text of the file has a fault, and the first is told.
     ensures faulty { result ≡ 3 → (name : List ℕ) × IsCheck name (map string_bytes words.now)
-        × WasFaulty (F.files files.old) name (K.written out.old) (K.written out.new) (K.faults out.old) (K.faults out.new) }
+        × WasFaulty (F.files files.old) name (K.shown out.old) (K.shown out.new) }
 
     // The file can't be loaded, or it is too long.
     ensures not_loaded { result ≡ 5 → (name : List ℕ) × IsCheck name (map string_bytes words.now)
-        × WasNotLoaded (F.files files.old) name (F.faults files.old) (F.faults files.new) (K.written out.old) (K.written out.new) (K.faults out.old) (K.faults out.new) }
+        × WasNotLoaded (F.files files.old) name (F.faults files.old) (F.faults files.new) (K.shown out.old) (K.shown out.new) }
     ensures no_load_fault { result ≢ 5 → F.faults files.new ≡ F.faults files.old }
 
     // The stream left its grammar: all records before are answered, and then its offset is written.
-    ensures grammar { result ≡ 6 → IsReplay (map string_bytes words.now) × HasLeft (S.left input.old) (S.left input.new) (K.written out.old) (K.written out.new) }
+    ensures grammar { result ≡ 6 → IsReplay (map string_bytes words.now) × HasLeft (S.left input.old) (S.left input.new) (K.shown out.old).written (K.shown out.new).written }
     ensures no_stream { result ≡ 6 → IfSome (S.left input.old) IsNoStream }
 
     // A read failed: all whole records that were read are answered.
-    ensures input { result ≡ 7 → IsReplay (map string_bytes words.now) × WasCutOff (S.left input.old) (S.left input.new) (K.written out.old) (K.written out.new) }
+    ensures input { result ≡ 7 → IsReplay (map string_bytes words.now) × WasCutOff (S.left input.old) (S.left input.new) (K.shown out.old).written (K.shown out.new).written }
     ensures read_fault { result ≡ 7 → Rises (S.faults input.old) (S.faults input.new) }
     ensures no_read_fault { result ≢ 7 → S.faults input.new ≡ S.faults input.old }
 
     // A write failed: a front of what was due was written.
-    ensures output { result ≡ 8 → (IsReplay (map string_bytes words.now) × WasStopped (S.left input.old) (S.left input.new) (K.written out.old) (K.written out.new))
-        ⊎ ((name : List ℕ) × IsCheck name (map string_bytes words.now) × WasCutShort (F.files files.old) name (K.written out.old) (K.written out.new))
-        ⊎ ReportWasCut (map string_bytes words.now) (K.written out.old) (K.written out.new) }
-    ensures write_fault { result ≡ 8 → Rises (K.faults out.old) (K.faults out.new) }
-    ensures no_write_fault { (result ≡ 0) ⊎ (result ≡ 4) ⊎ (result ≡ 6) ⊎ (result ≡ 7) → K.faults out.new ≡ K.faults out.old }
+    ensures output { result ≡ 8 → (IsReplay (map string_bytes words.now) × WasStopped (S.left input.old) (S.left input.new) (K.shown out.old).written (K.shown out.new).written)
+        ⊎ ((name : List ℕ) × IsCheck name (map string_bytes words.now) × WasCutShort (F.files files.old) name (K.shown out.old) (K.shown out.new))
+        ⊎ ReportWasCut (map string_bytes words.now) (K.shown out.old) (K.shown out.new) }
+    ensures write_fault { result ≡ 8 → Rises (K.shown out.old).faults (K.shown out.new).faults }
+    ensures no_write_fault { (result ≡ 0) ⊎ (result ≡ 4) ⊎ (result ≡ 6) ⊎ (result ≡ 7) → (K.shown out.new).faults ≡ (K.shown out.old).faults }
 
     // Where nothing fails, a stream is answered, what is none is told so, of a file its content alone decides, and a load is
     // told.
     ensures complete { (octets : List ℕ) (records : List Item) → S.left input.old ≡ Some octets → IsStream octets records → IsReplay (map string_bytes words.now)
-        → (Rises (S.faults input.old) (S.faults input.new) → ⊥) → (Rises (K.faults out.old) (K.faults out.new) → ⊥) → (result ≡ 0) ⊎ (result ≡ 4) }
+        → (Rises (S.faults input.old) (S.faults input.new) → ⊥) → (Rises (K.shown out.old).faults (K.shown out.new).faults → ⊥) → (result ≡ 0) ⊎ (result ≡ 4) }
     ensures refused { (octets : List ℕ) → S.left input.old ≡ Some octets → IsNoStream octets → IsReplay (map string_bytes words.now)
-        → (Rises (S.faults input.old) (S.faults input.new) → ⊥) → (Rises (K.faults out.old) (K.faults out.new) → ⊥) → (result ≡ 6) ⊎ (result ≡ 4) }
+        → (Rises (S.faults input.old) (S.faults input.new) → ⊥) → (Rises (K.shown out.old).faults (K.shown out.new).faults → ⊥) → (result ≡ 6) ⊎ (result ≡ 4) }
     ensures checked { (fs : List port.File) (name text : List ℕ) → F.files files.old ≡ Some fs → content name fs ≡ Some text → IsCheck name (map string_bytes words.now)
-        → (Rises (F.faults files.old) (F.faults files.new) → ⊥) → (Rises (K.faults out.old) (K.faults out.new) → ⊥) → (result ≡ content_status text) ⊎ (result ≡ 4) }
-    ensures reported { (seed count : ℕ) → IsGen seed count (map string_bytes words.now) → (Rises (K.faults out.old) (K.faults out.new) → ⊥) → (result ≡ 0) ⊎ (result ≡ 4) }
+        → (Rises (F.faults files.old) (F.faults files.new) → ⊥) → (Rises (K.shown out.old).faults (K.shown out.new).faults → ⊥) → (result ≡ content_status text) ⊎ (result ≡ 4) }
+    ensures reported { (seed count : ℕ) → IsGen seed count (map string_bytes words.now) → (Rises (K.shown out.old).faults (K.shown out.new).faults → ⊥) → (result ≡ 0) ⊎ (result ≡ 4) }
 {
     if !is_replay(words) {
         if let Some((seed, count)) = load_to_report(words) {

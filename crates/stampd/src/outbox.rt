@@ -65,12 +65,12 @@ impl Outbox {
 
     /// Writes what is due.
     pub fn flush<K: Sink>(&mut self, out: &mut K) -> Result<(), Failed>
-        ensures all { OnOk result (Appends (K.written out.old) (K.written out.new) (due self.old)) }
+        ensures all { OnOk result (Appends (K.shown out.old).written (K.shown out.new).written (due self.old)) }
         ensures none { OnOk result ((due self.new ≡ []) × (self.new.used ≡ 0)) }
-        ensures front { OnErr result (AppendsFront (K.written out.old) (K.written out.new) (due self.old)) }
+        ensures front { OnErr result (AppendsFront (K.shown out.old).written (K.shown out.new).written (due self.old)) }
         ensures kept { OnErr result (due self.new ≡ due self.old) }
-        ensures still { OnOk result (K.faults out.new ≡ K.faults out.old) }
-        ensures cause { OnErr result (Rises (K.faults out.old) (K.faults out.new)) }
+        ensures still { OnOk result ((K.shown out.new).faults ≡ (K.shown out.old).faults) }
+        ensures cause { OnErr result (Rises (K.shown out.old).faults (K.shown out.new).faults) }
     {
         write_all(out, &self.octets[..self.used])?;
         self.used = 0;
@@ -80,11 +80,11 @@ impl Outbox {
     /// Makes room for the longest answer: where there is none, what is due is written.
     pub fn make_room<K: Sink>(&mut self, out: &mut K) -> Result<(), Failed>
         ensures room { OnOk result (self.new.used + ANSWER_ROOM ≤ ROOM) }
-        ensures some { OnOk result ((octets : List ℕ) × Appends (K.written out.old) (K.written out.new) octets × (octets ++ due self.new ≡ due self.old)) }
-        ensures front { OnErr result (AppendsFront (K.written out.old) (K.written out.new) (due self.old)) }
+        ensures some { OnOk result ((octets : List ℕ) × Appends (K.shown out.old).written (K.shown out.new).written octets × (octets ++ due self.new ≡ due self.old)) }
+        ensures front { OnErr result (AppendsFront (K.shown out.old).written (K.shown out.new).written (due self.old)) }
         ensures kept { OnErr result (due self.new ≡ due self.old) }
-        ensures still { OnOk result (K.faults out.new ≡ K.faults out.old) }
-        ensures cause { OnErr result (Rises (K.faults out.old) (K.faults out.new)) }
+        ensures still { OnOk result ((K.shown out.new).faults ≡ (K.shown out.old).faults) }
+        ensures cause { OnErr result (Rises (K.shown out.old).faults (K.shown out.new).faults) }
     {
         if self.has_room() {
             return Ok(());

@@ -43,7 +43,7 @@ pub fn stampd<R: Threads + Sync, S: Source, K: Sink, F: Files, P: Port + Send, D
 
     // The words are no command.
     ensures usage { result ≡ 2 → (IsAnyCommand (map string_bytes words.now) → ⊥)
-        × WritesLine usage (K.written out.old) (K.written out.new) (K.faults out.old) (K.faults out.new) }
+        × WritesLine usage (K.shown out.old) (K.shown out.new) }
     ensures command { result ≢ 2 → IsAnyCommand (map string_bytes words.now) }
 
     // Only `replay` reads the input, no command changes a file, and only `run` does anything with the ports and the desk.
@@ -53,46 +53,46 @@ pub fn stampd<R: Threads + Sync, S: Source, K: Sink, F: Files, P: Port + Send, D
 
     // All that the source held is records, and just their answers were written; or the file is accepted; or the reflector
     // served by the file, with this report, which was written; or the lines of the load were written.
-    ensures done { result ≡ 0 → (IsReplay (map string_bytes words.now) × IsDone (S.left input.old) (S.left input.new) (K.written out.old) (K.written out.new))
-        ⊎ ((name : List ℕ) × IsCheck name (map string_bytes words.now) × WasAccepted (F.files files.old) name (K.written out.old) (K.written out.new))
-        ⊎ ((name : List ℕ) × IsRun name (map string_bytes words.now) × OfFile (F.files files.old) name ports.old (λ f. HasServed P.shown D.shown f ports.old ports.new desk.old desk.new 0 (K.written out.old) (K.written out.new) (K.faults out.old) (K.faults out.new)))
-        ⊎ WasReported (map string_bytes words.now) (K.written out.old) (K.written out.new) }
-    ensures memory { result ≡ 4 → IsUntouched (S.left input.old) (S.left input.new) (K.written out.old) (K.written out.new) }
+    ensures done { result ≡ 0 → (IsReplay (map string_bytes words.now) × IsDone (S.left input.old) (S.left input.new) (K.shown out.old).written (K.shown out.new).written)
+        ⊎ ((name : List ℕ) × IsCheck name (map string_bytes words.now) × WasAccepted (F.files files.old) name (K.shown out.old) (K.shown out.new))
+        ⊎ ((name : List ℕ) × IsRun name (map string_bytes words.now) × OfFile (F.files files.old) name ports.old (λ f. HasServed P.shown D.shown f ports.old ports.new desk.old desk.new 0 (K.shown out.old) (K.shown out.new)))
+        ⊎ WasReported (map string_bytes words.now) (K.shown out.old) (K.shown out.new) }
+    ensures memory { result ≡ 4 → IsUntouched (S.left input.old) (S.left input.new) (K.shown out.old).written (K.shown out.new).written }
     ensures memory_served { result ≡ 4 → ((ports.new ≡ ports.old) × (desk.new ≡ desk.old))
         ⊎ ((name : List ℕ) × IsRun name (map string_bytes words.now) × OfFile (F.files files.old) name ports.old (λ f. HasNoReport P.shown D.shown f ports.old ports.new desk.old desk.new)) }
 
     // The text of the file has a fault, and the first is told; or it has more workers than there are ports.
-    ensures faulty { result ≡ 3 → ((name : List ℕ) × (IsCheck name (map string_bytes words.now) ⊎ IsRun name (map string_bytes words.now)) × WasFaulty (F.files files.old) name (K.written out.old) (K.written out.new) (K.faults out.old) (K.faults out.new))
-        ⊎ ((name : List ℕ) × IsRun name (map string_bytes words.now) × ((f : File) × IsAccepted (F.files files.old) name f × HasTooFewPorts f (length ports.old) (K.written out.old) (K.written out.new) (K.faults out.old) (K.faults out.new))) }
+    ensures faulty { result ≡ 3 → ((name : List ℕ) × (IsCheck name (map string_bytes words.now) ⊎ IsRun name (map string_bytes words.now)) × WasFaulty (F.files files.old) name (K.shown out.old) (K.shown out.new))
+        ⊎ ((name : List ℕ) × IsRun name (map string_bytes words.now) × ((f : File) × IsAccepted (F.files files.old) name f × HasTooFewPorts f (length ports.old) (K.shown out.old) (K.shown out.new))) }
 
     // The file can't be loaded, or it is too long.
     ensures not_loaded { result ≡ 5 → (name : List ℕ) × (IsCheck name (map string_bytes words.now) ⊎ IsRun name (map string_bytes words.now))
-        × WasNotLoaded (F.files files.old) name (F.faults files.old) (F.faults files.new) (K.written out.old) (K.written out.new) (K.faults out.old) (K.faults out.new) }
+        × WasNotLoaded (F.files files.old) name (F.faults files.old) (F.faults files.new) (K.shown out.old) (K.shown out.new) }
     ensures no_load_fault { result ≢ 5 → F.faults files.new ≡ F.faults files.old }
     ensures untouched { (result ≡ 3) ⊎ (result ≡ 5) → (ports.new ≡ ports.old) × (desk.new ≡ desk.old) }
 
     // The stream left its grammar: all records before are answered, and then its offset is written.
-    ensures grammar { result ≡ 6 → IsReplay (map string_bytes words.now) × HasLeft (S.left input.old) (S.left input.new) (K.written out.old) (K.written out.new) }
+    ensures grammar { result ≡ 6 → IsReplay (map string_bytes words.now) × HasLeft (S.left input.old) (S.left input.new) (K.shown out.old).written (K.shown out.new).written }
     ensures no_stream { result ≡ 6 → IfSome (S.left input.old) IsNoStream }
 
     // A read failed: all whole records that were read are answered.
-    ensures input { result ≡ 7 → IsReplay (map string_bytes words.now) × WasCutOff (S.left input.old) (S.left input.new) (K.written out.old) (K.written out.new) }
+    ensures input { result ≡ 7 → IsReplay (map string_bytes words.now) × WasCutOff (S.left input.old) (S.left input.new) (K.shown out.old).written (K.shown out.new).written }
     ensures read_fault { result ≡ 7 → Rises (S.faults input.old) (S.faults input.new) }
     ensures no_read_fault { result ≢ 7 → S.faults input.new ≡ S.faults input.old }
 
     // A write failed: a front of what was due was written.
-    ensures output { result ≡ 8 → (IsReplay (map string_bytes words.now) × WasStopped (S.left input.old) (S.left input.new) (K.written out.old) (K.written out.new))
-        ⊎ ((name : List ℕ) × IsCheck name (map string_bytes words.now) × WasCutShort (F.files files.old) name (K.written out.old) (K.written out.new))
-        ⊎ ((name : List ℕ) × IsRun name (map string_bytes words.now) × OfFile (F.files files.old) name ports.old (λ f. HasLostReport P.shown D.shown f ports.old ports.new desk.old desk.new (K.written out.old) (K.written out.new) (K.faults out.old) (K.faults out.new)))
-        ⊎ ReportWasCut (map string_bytes words.now) (K.written out.old) (K.written out.new) }
-    ensures write_fault { result ≡ 8 → Rises (K.faults out.old) (K.faults out.new) }
-    ensures no_write_fault { (result ≡ 0) ⊎ (result ≡ 4) ⊎ (result ≡ 6) ⊎ (result ≡ 7) → K.faults out.new ≡ K.faults out.old }
+    ensures output { result ≡ 8 → (IsReplay (map string_bytes words.now) × WasStopped (S.left input.old) (S.left input.new) (K.shown out.old).written (K.shown out.new).written)
+        ⊎ ((name : List ℕ) × IsCheck name (map string_bytes words.now) × WasCutShort (F.files files.old) name (K.shown out.old) (K.shown out.new))
+        ⊎ ((name : List ℕ) × IsRun name (map string_bytes words.now) × OfFile (F.files files.old) name ports.old (λ f. HasLostReport P.shown D.shown f ports.old ports.new desk.old desk.new (K.shown out.old) (K.shown out.new)))
+        ⊎ ReportWasCut (map string_bytes words.now) (K.shown out.old) (K.shown out.new) }
+    ensures write_fault { result ≡ 8 → Rises (K.shown out.old).faults (K.shown out.new).faults }
+    ensures no_write_fault { (result ≡ 0) ⊎ (result ≡ 4) ⊎ (result ≡ 6) ⊎ (result ≡ 7) → (K.shown out.new).faults ≡ (K.shown out.old).faults }
 
     // A port failed to open, or failed too often in a row; the desk did; a worker or the desk made as many calls as the file
     // lets it. Where the reflector served, its report was written before the line.
-    ensures port_failed { result ≡ 9 → (name : List ℕ) × IsRun name (map string_bytes words.now) × OfFile (F.files files.old) name ports.old (λ f. HasClosedPort P.shown ports.old ports.new desk.old desk.new (K.written out.old) (K.written out.new) (K.faults out.old) (K.faults out.new) ⊎ HasServed P.shown D.shown f ports.old ports.new desk.old desk.new 9 (K.written out.old) (K.written out.new) (K.faults out.old) (K.faults out.new)) }
-    ensures desk_failed { result ≡ 10 → (name : List ℕ) × IsRun name (map string_bytes words.now) × OfFile (F.files files.old) name ports.old (λ f. HasClosedDesk P.shown D.shown ports.old ports.new desk.old desk.new (K.written out.old) (K.written out.new) (K.faults out.old) (K.faults out.new) ⊎ HasServed P.shown D.shown f ports.old ports.new desk.old desk.new 10 (K.written out.old) (K.written out.new) (K.faults out.old) (K.faults out.new)) }
-    ensures budget_spent { result ≡ 11 → (name : List ℕ) × IsRun name (map string_bytes words.now) × OfFile (F.files files.old) name ports.old (λ f. HasServed P.shown D.shown f ports.old ports.new desk.old desk.new 11 (K.written out.old) (K.written out.new) (K.faults out.old) (K.faults out.new)) }
+    ensures port_failed { result ≡ 9 → (name : List ℕ) × IsRun name (map string_bytes words.now) × OfFile (F.files files.old) name ports.old (λ f. HasClosedPort P.shown ports.old ports.new desk.old desk.new (K.shown out.old) (K.shown out.new) ⊎ HasServed P.shown D.shown f ports.old ports.new desk.old desk.new 9 (K.shown out.old) (K.shown out.new)) }
+    ensures desk_failed { result ≡ 10 → (name : List ℕ) × IsRun name (map string_bytes words.now) × OfFile (F.files files.old) name ports.old (λ f. HasClosedDesk P.shown D.shown ports.old ports.new desk.old desk.new (K.shown out.old) (K.shown out.new) ⊎ HasServed P.shown D.shown f ports.old ports.new desk.old desk.new 10 (K.shown out.old) (K.shown out.new)) }
+    ensures budget_spent { result ≡ 11 → (name : List ℕ) × IsRun name (map string_bytes words.now) × OfFile (F.files files.old) name ports.old (λ f. HasServed P.shown D.shown f ports.old ports.new desk.old desk.new 11 (K.shown out.old) (K.shown out.new)) }
 
     ensures port_cause { result ≡ 9 → OneHasFailed P.shown ports.old ports.new }
     ensures desk_cause { result ≡ 10 → HasRisen (D.shown desk.old).faults (D.shown desk.new).faults }
@@ -100,13 +100,13 @@ pub fn stampd<R: Threads + Sync, S: Source, K: Sink, F: Files, P: Port + Send, D
     // Where nothing fails, a stream is answered, what is none is told so, of a file its content alone decides, and a load is
     // told.
     ensures complete { (octets : List ℕ) (records : List Item) → S.left input.old ≡ Some octets → IsStream octets records → IsReplay (map string_bytes words.now)
-        → (Rises (S.faults input.old) (S.faults input.new) → ⊥) → (Rises (K.faults out.old) (K.faults out.new) → ⊥) → (result ≡ 0) ⊎ (result ≡ 4) }
+        → (Rises (S.faults input.old) (S.faults input.new) → ⊥) → (Rises (K.shown out.old).faults (K.shown out.new).faults → ⊥) → (result ≡ 0) ⊎ (result ≡ 4) }
     ensures refused { (octets : List ℕ) → S.left input.old ≡ Some octets → IsNoStream octets → IsReplay (map string_bytes words.now)
-        → (Rises (S.faults input.old) (S.faults input.new) → ⊥) → (Rises (K.faults out.old) (K.faults out.new) → ⊥) → (result ≡ 6) ⊎ (result ≡ 4) }
+        → (Rises (S.faults input.old) (S.faults input.new) → ⊥) → (Rises (K.shown out.old).faults (K.shown out.new).faults → ⊥) → (result ≡ 6) ⊎ (result ≡ 4) }
     ensures checked { (fs : List port.File) (name text : List ℕ) → F.files files.old ≡ Some fs → content name fs ≡ Some text → IsCheck name (map string_bytes words.now)
-        → (Rises (F.faults files.old) (F.faults files.new) → ⊥) → (Rises (K.faults out.old) (K.faults out.new) → ⊥) → (result ≡ content_status text) ⊎ (result ≡ 4) }
+        → (Rises (F.faults files.old) (F.faults files.new) → ⊥) → (Rises (K.shown out.old).faults (K.shown out.new).faults → ⊥) → (result ≡ content_status text) ⊎ (result ≡ 4) }
 
-    ensures reported { (seed count : ℕ) → IsGen seed count (map string_bytes words.now) → (Rises (K.faults out.old) (K.faults out.new) → ⊥) → (result ≡ 0) ⊎ (result ≡ 4) }
+    ensures reported { (seed count : ℕ) → IsGen seed count (map string_bytes words.now) → (Rises (K.shown out.old).faults (K.shown out.new).faults → ⊥) → (result ≡ 0) ⊎ (result ≡ 4) }
 
     // Likewise of a file to serve; and what is served ends with 0, or with 11 where a budget is spent.
     ensures turned_away { (fs : List port.File) (name text : List ℕ) → F.files files.old ≡ Some fs → content name fs ≡ Some text → IsRun name (map string_bytes words.now)
@@ -115,7 +115,7 @@ pub fn stampd<R: Threads + Sync, S: Source, K: Sink, F: Files, P: Port + Send, D
         → (Rises (F.faults files.old) (F.faults files.new) → ⊥) → length text ≤ file_limit → file_in text ≡ Ok f → length ports.old < f.workers → (result ≡ 3) ⊎ (result ≡ 4) }
     ensures served { (fs : List port.File) (name text : List ℕ) (f : File) → F.files files.old ≡ Some fs → content name fs ≡ Some text → IsRun name (map string_bytes words.now)
         → (Rises (F.faults files.old) (F.faults files.new) → ⊥) → length text ≤ file_limit → file_in text ≡ Ok f → f.workers ≤ length ports.old
-        → NothingFails P.shown D.shown ports.old ports.new desk.old desk.new (K.faults out.old) (K.faults out.new) → (result ≡ 0) ⊎ (result ≡ 4) ⊎ (result ≡ 11) }
+        → NothingFails P.shown D.shown ports.old ports.new desk.old desk.new (K.shown out.old) (K.shown out.new) → (result ≡ 0) ⊎ (result ≡ 4) ⊎ (result ≡ 11) }
 {
     let Some(name) = file_to_run(words) else {
         return offline(alloc, words, input, out, files);

@@ -6,9 +6,9 @@ use Rattle.stampd.proofs.offline.replay.Given as goal
 
 abbrev pub invariant-records : goal.invariant-records
 invariant-records g l = record {
-  going : (records : List Item) × Going (g.S.Source.left l.fn.input) (g.S.Source.left l.input) (g.K.Sink.written l.fn.out) (g.K.Sink.written l.out) l.sessions (pending l.ahead) (due l.outbox) l.passed records;
+  going : (records : List Item) × Going (g.S.Source.left l.fn.input) (g.S.Source.left l.input) (g.K.Sink.shown l.fn.out).written (g.K.Sink.shown l.out).written l.sessions (pending l.ahead) (due l.outbox) l.passed records;
   input : g.S.Source.faults l.input ≡ g.S.Source.faults l.fn.input;
-  out : g.K.Sink.faults l.out ≡ g.K.Sink.faults l.fn.out;
+  out : (g.K.Sink.shown l.out).faults ≡ (g.K.Sink.shown l.fn.out).faults;
   limit : l.passed + length (pending l.ahead) ≤ 2 ^ 30 + 524288;
   passed : l.passed ≤ 2 ^ 30;
 }
