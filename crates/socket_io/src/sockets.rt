@@ -1,19 +1,22 @@
 //! Sockets for datagrams, which all ports of one opening share.
 
-ghost use Rattle.std.specs.Prelude.{◌≡◌, ◌≤◌, length, IfOk, IfSome};
+ghost use Rattle.std.specs.Prelude.{◌≡◌, ◌≤◌, length, IfOk};
 ghost use Rattle.refl_types.specs.Limits.{datagram_limit};
 ghost use Rattle.refl_types.specs.declared.types.Endpoint.{Endpoint};
+ghost use Rattle.socket_io.specs.Received.{IfReceived};
 
 use crate::address::socket_addr_of;
 use crate::clock::LONGEST_WAIT;
+use crate::raw_address::{RawAddress, encode, is_known};
 use crate::receive_buffer::ask_for_room;
+use libc::net as c;
 use mio::unix::SourceFd;
 use mio::{Interest, Poll, Token};
 use os::EpollEvent;
 use refl_types::{Endpoint, LocalAddr};
 use std::alloc::Global;
 use std::io::{self, ErrorKind};
-use std::net::{Net, SocketAddr, UdpSocket};
+use std::net::{Net, UdpSocket};
 use std::os::fd::AsRawFd;
 use std::time::Duration;
 
@@ -37,13 +40,19 @@ impl Turn {
     }
 }
 
-/// A datagram that stands at the front of a buffer.
+/// What a receive came to.
 #[derive(Clone, Copy)]
-pub struct Arrived {
-    /// The place of the socket that it came to.
-    pub local: u16,
-    pub from: SocketAddr,
-    pub len: usize,
+pub enum Received {
+    /// A datagram stands at the front of the buffer, and its sender in the raw address.
+    Datagram {
+        /// The place of the socket that it came to.
+        local: u16,
+        len: usize,
+    },
+    /// Nothing came in time, or a datagram that is too long.
+    Nothing,
+    /// The system failed.
+    Failed,
 }
 
 /// Sockets that are bound to local addresses, one each.
@@ -74,61 +83,94 @@ impl Sockets {
         Ok(Sockets { each, locals, set })
     }
 
-    /// The next datagram, where one comes within 100 ms or so. The socket whose turn it is is asked first.
-    pub fn receive(&self, turn: &mut Turn, buf: &mut [u8]) -> io::Result<Option<Arrived>>
-        ensures len { IfOk result (λ found. IfSome found (λ arrived. arrived.len ≤ datagram_limit)) }
+    /// The next datagram, where one comes within 100 ms or so. A socket that is alone waits for it; of several the one whose turn it
+    /// is is asked first.
+    #[inline(always)]
+    pub fn receive(&self, turn: &mut Turn, buf: &mut [u8], raw: &mut RawAddress) -> Received
+        ensures len { IfReceived result (λ len. len ≤ datagram_limit) }
         ensures room { length buf.new ≡ length buf.old }
     {
-        let mut found = self.sweep(turn, buf)?;
-        if found.is_none() && self.waits() {
-            found = self.sweep(turn, buf)?;
-        }
-        match found {
-            Some(arrived) if arrived.len <= DATAGRAM_LIMIT => Ok(Some(arrived)),
-            _ => Ok(None),
+        match &self.set {
+            None => self.take_at(0, buf, raw),
+            Some(set) => self.receive_of_several(set, turn, buf, raw),
         }
     }
 
+    /// The next datagram of several sockets.
+    #[inline(never)]
+    fn receive_of_several(
+        &self,
+        set: &Poll,
+        turn: &mut Turn,
+        buf: &mut [u8],
+        raw: &mut RawAddress,
+    ) -> Received
+        ensures len { IfReceived result (λ len. len ≤ datagram_limit) }
+        ensures room { length buf.new ≡ length buf.old }
+    {
+        let found = self.sweep(turn, buf, raw);
+        if matches!(found, Received::Nothing) && wait(set) {
+            return self.sweep(turn, buf, raw);
+        }
+        found
+    }
+
     /// The next datagram of the sockets, each of which is asked once. One that fails or is empty loses its turn.
-    fn sweep(&self, turn: &mut Turn, buf: &mut [u8]) -> io::Result<Option<Arrived>>
-        ensures { length buf.new ≡ length buf.old }
+    fn sweep(&self, turn: &mut Turn, buf: &mut [u8], raw: &mut RawAddress) -> Received
+        ensures len { IfReceived result (λ len. len ≤ datagram_limit) }
+        ensures room { length buf.new ≡ length buf.old }
     {
         for _ in 0..self.each.len() {
             let Turn { at, left } = *turn;
             let at = if at < self.each.len() { at } else { 0 };
             *turn = Turn::of(at + 1);
-            let Some((len, from)) = take(&self.each[at], buf)? else {
+            let found = self.take_at(at, buf, raw);
+            if matches!(found, Received::Nothing) {
                 continue;
-            };
-            if left > 1 {
+            }
+            if left > 1 && matches!(found, Received::Datagram { .. }) {
                 *turn = Turn { at, left: left - 1 };
             }
-            if let Ok(local) = u16::try_from(at) {
-                return Ok(Some(Arrived { local, from, len }));
-            }
+            return found;
         }
-        Ok(None)
+        Received::Nothing
     }
 
-    /// Whether a socket may have something after a wait of 100 ms at most. One socket alone has waited in its receive.
-    fn waits(&self) -> bool {
-        match &self.set {
-            Some(set) => wait(set),
-            None => false,
-        }
-    }
-
-    /// Sends a datagram from the local address of that number.
-    pub fn send(&self, from: u16, to: &Endpoint, octets: &[u8]) -> io::Result<()> {
-        let Some(socket) = self.each.get(usize::from(from)) else {
-            return Err(io::Error::from(ErrorKind::AddrNotAvailable));
+    /// A datagram of the socket at a place, where there is one before its time is up.
+    #[inline(always)]
+    fn take_at(&self, at: usize, buf: &mut [u8], raw: &mut RawAddress) -> Received
+        ensures len { IfReceived result (λ len. len ≤ datagram_limit) }
+        ensures room { length buf.new ≡ length buf.old }
+    {
+        let Some(socket) = self.each.get(at) else {
+            return Received::Nothing;
         };
-        let count = socket.send_to(octets, socket_addr_of(to))?;
-        if count == octets.len() {
-            Ok(())
-        } else {
-            Err(io::Error::from(ErrorKind::WriteZero))
+        let Ok(local) = u16::try_from(at) else {
+            return Received::Nothing;
+        };
+        let mut room = c::_SS_SIZE as u32;
+        let got = unsafe { c::recvfrom(socket.as_raw_fd(), buf, 0, raw, &mut room) };
+        let Ok(len) = usize::try_from(got) else {
+            return failed();
+        };
+        if len > DATAGRAM_LIMIT {
+            return Received::Nothing;
         }
+        if !is_known(raw, room) {
+            return Received::Nothing;
+        }
+        Received::Datagram { local, len }
+    }
+
+    /// Sends a datagram from the local address of that number, and says whether the system took it.
+    #[inline(always)]
+    pub fn send(&self, from: u16, to: &Endpoint, octets: &[u8], raw: &mut RawAddress) -> bool {
+        let Some(socket) = self.each.get(usize::from(from)) else {
+            return false;
+        };
+        let len = encode(to, raw);
+        let put = unsafe { c::sendto(socket.as_raw_fd(), octets, c::MSG_NOSIGNAL, raw, len) };
+        usize::try_from(put) == Ok(octets.len())
     }
 }
 
@@ -160,13 +202,14 @@ fn wait(set: &Poll) -> bool {
     os::epoll_wait(set.as_raw_fd(), &mut events, LONGEST_WAIT as i32) != 0
 }
 
-/// A datagram of a socket, where there is one before its time is up.
-fn take(socket: &UdpSocket, buf: &mut [u8]) -> io::Result<Option<(usize, SocketAddr)>>
-    ensures { length buf.new ≡ length buf.old }
+/// What a receive that failed came to. It stands out of line.
+#[cold]
+#[inline(never)]
+fn failed() -> Received
+    ensures { IfReceived result (λ len. ⊥) }
 {
-    match socket.recv_from(buf) {
-        Ok(found) => Ok(Some(found)),
-        Err(e) if matches!(e.kind(), ErrorKind::WouldBlock | ErrorKind::Interrupted) => Ok(None),
-        Err(e) => Err(e),
+    match io::Error::from_raw_os_error(os::errno()).kind() {
+        ErrorKind::WouldBlock | ErrorKind::Interrupted => Received::Nothing,
+        _ => Received::Failed,
     }
 }

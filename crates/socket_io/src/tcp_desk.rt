@@ -66,7 +66,7 @@ impl<R: Net + Clock + Copy> TcpDesk<R> {
         ensures open { self.new.is_open ≡ self.old.is_open }
         ensures still { self.new.faults ≡ self.old.faults }
     {
-        if let Some(moment) = wall_clock(&self.rt) {
+        if let Some(moment) = wall_clock() {
             self.moment = moment;
         }
         if let Some(time) = steady_clock(&self.rt) {

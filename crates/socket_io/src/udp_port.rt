@@ -1,17 +1,19 @@
 //! The system's sockets for datagrams as a port.
 
-ghost use Rattle.std.specs.Prelude.{◌≡◌, ◌≤◌, length, IfOk, IfSome};
+ghost use Rattle.std.specs.Prelude.{◌≡◌, ◌≤◌, length, IfOk, OnOk, OnErr};
 ghost use Rattle.refl_types.specs.Limits.{datagram_limit};
+ghost use Rattle.port_io.specs.Outside.{Rises};
+ghost use Rattle.net_io.specs.Port.{datagram_len};
 
-use crate::address::endpoint_of;
 use crate::clock::wall_clock;
 use crate::ends::Ends;
-use crate::sockets::{Sockets, Turn};
+use crate::raw_address::{RawAddress, decode};
+use crate::sockets::{Received, Sockets, Turn};
+use libc::net::_SS_SIZE;
 use net_io::{Got, Port};
 use port_io::{Failed, count_failure};
 use refl_types::{Endpoint, LocalAddr, Memory, Meta};
 use std::alloc::Global;
-use std::io::{self, ErrorKind};
 use std::marker::Model;
 use std::net::Net;
 use std::sync::Arc;
@@ -34,6 +36,11 @@ pub struct UdpPort<R: Net + Clock + Copy> {
     stage: Stage,
     sockets: Option<Arc<Sockets, Global>>,
     turn: Turn,
+    /// Whom the last datagram came from, and whom one was sent to last.
+    from: RawAddress,
+    /// What is told of the last datagram.
+    meta: Meta,
+    to: RawAddress,
     /// The last moment that was read, 0 before.
     last: u64,
     faults: u64,
@@ -52,8 +59,21 @@ impl<R: Net + Clock + Copy> Model for UdpPort<R> {
     } };
 }
 
+const NO_META: Meta = Meta {
+    local: 0,
+    peer: Endpoint {
+        address: refl_types::Address::V4([0; 4]),
+        port: 0,
+    },
+    len: 0,
+    ttl: None,
+    arrival: 0,
+};
+
 impl<R: Net + Clock + Copy> UdpPort<R> {
     ghost use Rattle.std.specs.Prelude.{◌≡◌, [], IfOk, OnOk, OnErr};
+    ghost use Rattle.port_io.specs.Outside.{Rises};
+    ghost use Rattle.net_io.specs.Port.{datagram_len};
     ghost use Rattle.std.specs.Arc.{arc_value};
     ghost use Rattle.socket_io.specs.declared.sockets.Sockets.{Sockets};
 
@@ -70,6 +90,9 @@ impl<R: Net + Clock + Copy> UdpPort<R> {
             stage: Stage::Unopened,
             sockets: None,
             turn: Turn::of(0),
+            from: [0; _SS_SIZE],
+            meta: NO_META,
+            to: [0; _SS_SIZE],
             last: 0,
             faults: 0,
         })
@@ -88,35 +111,43 @@ impl<R: Net + Clock + Copy> UdpPort<R> {
     }
 
     /// The moment, or the last that was read where the clock can't be read.
+    #[inline(always)]
     fn moment(&mut self) -> u64
         ensures bound { self.new.bound ≡ self.old.bound }
         ensures still { self.new.faults ≡ self.old.faults }
     {
-        if let Some(moment) = wall_clock(&self.rt) {
-            self.last = moment;
+        match wall_clock() {
+            Some(moment) => {
+                self.last = moment;
+                moment
+            }
+            None => self.last,
         }
-        self.last
     }
 
     /// The next datagram, where one comes in time.
-    fn receive(&mut self, buf: &mut [u8]) -> io::Result<Option<Meta>>
-        ensures len { IfOk result (λ found. IfSome found (λ meta. meta.len ≤ datagram_limit)) }
+    #[inline(always)]
+    fn receive(&mut self, buf: &mut [u8]) -> Result<Got, Failed>
+        ensures len { IfOk result (λ got. datagram_len got ≤ datagram_limit) }
         ensures bound { self.new.bound ≡ self.old.bound }
-        ensures still { self.new.faults ≡ self.old.faults }
+        ensures still { OnOk result (self.new.faults ≡ self.old.faults) }
+        ensures cause { OnErr result (Rises self.old.faults self.new.faults) }
     {
         let Some(sockets) = &self.sockets else {
-            return Err(io::Error::from(ErrorKind::NotConnected));
+            return Err(count_failure(&mut self.faults));
         };
-        let Some(arrived) = sockets.receive(&mut self.turn, buf)? else {
-            return Ok(None);
-        };
-        Ok(Some(Meta {
-            local: arrived.local,
-            peer: endpoint_of(arrived.from),
-            len: arrived.len,
-            ttl: None,
-            arrival: self.moment(),
-        }))
+        match sockets.receive(&mut self.turn, buf, &mut self.from) {
+            Received::Datagram { local, len } => {
+                let arrival = self.moment();
+                self.meta.local = local;
+                self.meta.peer = decode(&self.from);
+                self.meta.len = len;
+                self.meta.arrival = arrival;
+                Ok(Got::Datagram(self.meta))
+            }
+            Received::Nothing => Ok(Got::Nothing),
+            Received::Failed => Err(count_failure(&mut self.faults)),
+        }
     }
 }
 
@@ -149,28 +180,28 @@ impl<R: Net + Clock + Copy> Port for UdpPort<R> {
         Ok(())
     }
 
+    #[inline(always)]
     fn recv(&mut self, buf: &mut [u8]) -> Result<Got, Failed> {
         if self.ends.is_finished() {
             return Ok(Got::End);
         }
-        match self.receive(buf) {
-            Ok(Some(meta)) => Ok(Got::Datagram(meta)),
-            Ok(None) => Ok(Got::Nothing),
-            Err(_) => Err(count_failure(&mut self.faults)),
-        }
+        self.receive(buf)
     }
 
+    #[inline(always)]
     fn now(&mut self) -> u64 {
         self.moment()
     }
 
+    #[inline(always)]
     fn send(&mut self, from: u16, to: &Endpoint, octets: &[u8]) -> Result<(), Failed> {
         let Some(sockets) = &self.sockets else {
             return Err(count_failure(&mut self.faults));
         };
-        match sockets.send(from, to, octets) {
-            Ok(()) => Ok(()),
-            Err(_) => Err(count_failure(&mut self.faults)),
+        if sockets.send(from, to, octets, &mut self.to) {
+            Ok(())
+        } else {
+            Err(count_failure(&mut self.faults))
         }
     }
 
