@@ -1,8 +1,9 @@
--- A turn: the answers of a worker's seat to one datagram, what the port's log tells after its taking, and the outcome (RFC 8762,
--- section 4.3; RFC 9503, section 4.1.1). That a datagram is left unanswered where its configuration changed meanwhile is this
--- project's own. A row is named by its number; which configuration it stands for is a parameter.
+-- A turn of a worker: the answers of its seat to one datagram, what the port's log tells after its taking, and the outcome (RFC
+-- 8762, section 4.3; RFC 9503, section 4.1.1). That a datagram is left unanswered where its configuration changed meanwhile is
+-- this project's own. A row is named by its number; which configuration it stands for is a parameter.
 use Rattle.std.specs.Prelude.{◌≡◌, ℕ, List, [], ◌∷◌, ◌++◌, Option, Some, None, Result, Ok, Err, ⊤}
 use Rattle.refl_types.specs.declared.types.Meta.{Meta}
+use Rattle.refl_types.specs.declared.types.Mode.{Mode}
 use Rattle.refl_types.specs.declared.outcome.Silent.{Silent}
 use Rattle.refl_types.specs.declared.outcome.Silent.TheVariants as silent
 use Rattle.refl_types.specs.declared.outcome.Unanswered.{Unanswered}
@@ -16,35 +17,20 @@ use Rattle.session_key.specs.Matching.{query_of}
 use Rattle.session_world.specs.declared.steps.Step.{Step}
 use Rattle.session_world.specs.Keys.{Query, Key, Extra, ConfigParts}
 use Rattle.session_world.specs.Worker.{announced}
-use Rattle.session_world.specs.Answers.{Answer, seen, drew, missed, late, worker_answers}
+use Rattle.session_world.specs.Answers.{worker_answers}
 use Rattle.session_world.specs.Rows.{ReadsRows}
 use Rattle.session_rule.specs.declared.seats.Table.{Table}
 use Rattle.session_rule.specs.declared.seats.WorkerSeat.{WorkerSeat}
 use Rattle.session_rule.specs.Seats.{size_of, worker_steps}
+use Rattle.port_io.specs.declared.outside.Failed.{Failed}
 use Rattle.net_io.specs.Log.{Grows}
 use Rattle.net_io.specs.Port.{PortEntry, took, read, sent, send_failed}
 use Rattle.session_table.specs.Steps.{HasCome}
 use Rattle.session_table.specs.Holding.{HoldsNothing}
+pub use Rattle.session_turn.specs.Turn.{Group, no_match, only_seen, seen_late, seen_drew, answers_of}
 
 abbrev pub query : Arrived → Query
 query d = query_of d.meta.local d.meta.peer d.octets
-
--- ---- what a seat answers
-
--- no session matches; or one was seen, under a row: nothing more was asked, or the draw came too late, or it gave a number, under
--- another row or the same
-pub data Group : Type 0 where
-  no_match : Group
-  only_seen : Key → Extra → ℕ → Group
-  seen_late : Key → Extra → ℕ → Group
-  seen_drew : Key → Extra → ℕ → ℕ → ℕ → Group
-
--- these answers in the seat's list, the latest first
-abbrev pub answers_of : Query → Group → List (Answer ℕ)
-answers_of q no_match = missed q ∷ []
-answers_of q (only_seen k x r) = seen q k x r ∷ []
-answers_of q (seen_late k x r) = late q ∷ seen q k x r ∷ []
-answers_of q (seen_drew k x r n r') = drew k n r' ∷ seen q k x r ∷ []
 
 -- ---- the outcome
 
@@ -66,6 +52,11 @@ abbrev pub IsSent : ℕ → Reflected → List PortEntry → Outcome → Type 0
 IsSent moment reply entries (Ok u) = entries ≡ read moment ∷ sent reply.from reply.to reply.octets ∷ []
 IsSent moment reply entries (Err why) = (entries ≡ read moment ∷ send_failed reply.from reply.to reply.octets ∷ []) × (why ≡ SendFault)
 
+-- what the log tells of one send of a reply
+abbrev pub sent_entry : Reflected → Result (Unit {0}) Failed → PortEntry
+sent_entry reply (Ok u) = sent reply.from reply.to reply.octets
+sent_entry reply (Err e) = send_failed reply.from reply.to reply.octets
+
 -- what the configuration of a row makes of the datagram
 abbrev pub judged_under : (ℕ → ConfigParts) → Arrived → Key → ℕ → Judged
 judged_under config d k r = judgement k.mode (config r) d.octets
@@ -74,7 +65,7 @@ judged_under config d k r = judgement k.mode (config r) d.octets
 abbrev pub IsDrawn : (ℕ → ConfigParts) → Arrived → Key → Extra → ℕ → ℕ → ℕ → Judged → List PortEntry → Outcome → Type 0
 IsDrawn config d k x r n r' (judged.Silent why) entries outcome = (¬ (r ≡ r')) × IsUnanswered (Changed r r') entries outcome
 IsDrawn config d k x r n r' judged.Reflect entries outcome =
-    (moment : ℕ) × IsSent moment (reflection k x (config r') (record { number = n; sending = moment }) d) entries outcome
+    (moment : ℕ) × IsSent moment (reflection k.mode x (config r') (record { number = n; sending = moment }) d) entries outcome
 
 -- The turn of a datagram: the seat's answers, what the log tells after the taking, and the outcome
 abbrev pub IsTurn : (ℕ → ConfigParts) → Arrived → Group → List PortEntry → Outcome → Type 0
@@ -104,10 +95,10 @@ failed_sends (Err SendFault) = 1
 -- ---- what a call does
 
 -- A reply was sent under what was drawn, or its one send failed, and the log tells just that
-pub record Replies (k : Key) (x : Extra) (c : ConfigParts) (n : ℕ) (d : Arrived) (log log' : Option (List PortEntry)) (outcome : Outcome) : Type 0 where
+pub record Replies (m : Mode) (x : Extra) (c : ConfigParts) (n : ℕ) (d : Arrived) (log log' : Option (List PortEntry)) (outcome : Outcome) : Type 0 where
   pub moment : ℕ
   pub entries : List PortEntry
-  pub sent : IsSent moment (reflection k x c (record { number = n; sending = moment }) d) entries outcome
+  pub sent : IsSent moment (reflection m x c (record { number = n; sending = moment }) d) entries outcome
   pub written : Grows log log' entries
 
 -- A datagram was answered: the seat gained the answers of just this group, and the port's log grew by just these entries. It is a

@@ -1,29 +1,93 @@
 //! One turn, from the taking of a datagram on (RFC 8762, section 4.3).
 
-ghost use Rattle.std.specs.Prelude.{◌≡◌, ◌≢◌, ℕ, ◌≤◌, ◌<◌, true, false, List, take, length};
-ghost use Rattle.refl_types.specs.declared.outcome.Silent.{Silent};
+ghost use Rattle.std.specs.Prelude.{◌≡◌, ◌≤◌, ◌<◌, ◌∷◌, [], take, length, OnOk, OnErr};
+ghost use Rattle.port_io.specs.Outside.{Rises};
+ghost use Rattle.net_io.specs.Log.{Grows};
+ghost use Rattle.reflect_core.specs.Reflection.{reflection};
 ghost use Rattle.reflect_core.specs.declared.judging.Judged.TheVariants as judged;
 ghost use Rattle.reflect_core.specs.Arrived.{arrived};
 ghost use Rattle.reflect_core.specs.Judgement.{judgement};
-ghost use Rattle.session_rule.specs.Seats.{size_of, IsWorkerOf, worker_steps};
-ghost use Rattle.net_io.specs.Log.{Grows};
-ghost use Rattle.net_io.specs.Port.{PortEntry};
+ghost use Rattle.session_rule.specs.Seats.{IsWorkerOf, worker_steps};
 ghost use Rattle.session_table.specs.Knowing.{AreRead};
 ghost use Rattle.session_table.specs.Holding.{HoldsNothing};
 ghost use Rattle.receive_worker.specs.Buffers.{received};
 ghost use Rattle.receive_worker.specs.Faults.{RisesBy};
-ghost use Rattle.receive_worker.specs.Turn.{LastTook, Replies, Turned, failed_sends, silence};
+ghost use Rattle.receive_worker.specs.Turn.{LastTook, Replies, Turned, failed_sends, sent_entry};
 ghost use Rattle.receive_worker.specs.Work.{arrived_at};
 
 use crate::buffers::Buffers;
 use net_io::Port;
-use refl_types::{LocalAddr, Meta, Silent, Unanswered};
-use reflect_core::{Datagram, Draw, Judged, Session};
+use port_io::Failed;
+use refl_types::{LocalAddr, Meta, Unanswered};
+use reflect_core::{Datagram, Draw, Session};
 use session_rule::{Table, WorkerSeat};
-use session_table::{DrawnRow, KnownRows, Seen, draw_by, find_by, law_reads, retire};
-use session_world::law_rows_read;
+use session_table::{KnownRows, law_reads};
+use session_turn::take_turn;
+
+/// Writes the reply of any session under what was drawn, and sends it once. It stands out of line.
+#[cold]
+#[inline(never)]
+fn send_apart<P: Port>(
+    session: &Session,
+    port: &mut P,
+    datagram: &Datagram,
+    draw: &Draw,
+    output: &mut [u8],
+) -> Result<(), Failed>
+    requires bound { 0 < length (P.shown port.old).bound }
+    requires judged { judgement session.now.mode session.now.config.now datagram.now.octets.now ≡ judged.Reflect }
+    requires limit { length datagram.now.octets.now ≤ 65507 }
+    requires locals { length datagram.now.locals.now ≤ 16 }
+    requires room { length output.old ≡ 65536 }
+    ensures bound { (P.shown port.new).bound ≡ (P.shown port.old).bound }
+    ensures coming { (P.shown port.new).coming ≡ (P.shown port.old).coming }
+    ensures log { Grows (P.shown port.old).log (P.shown port.new).log (sent_entry (reflection session.now.mode session.now.extra session.now.config.now draw.now (arrived datagram.now)) result ∷ []) }
+    ensures made { (P.shown port.new).made ≡ (P.shown port.old).made }
+    ensures still { OnOk result ((P.shown port.new).faults ≡ (P.shown port.old).faults) }
+    ensures cause { OnErr result (Rises (P.shown port.old).faults (P.shown port.new).faults) }
+{
+    let reply = session.reflect(datagram, draw, output);
+    let octets = &output[..reply.len];
+    match &reply.elsewhere {
+        None => port.send(datagram.meta.local, &datagram.meta.peer, octets),
+        Some(ends) => port.send(ends.from, &ends.to, octets),
+    }
+}
+
+/// Writes the reply under what was drawn, and sends it once.
+#[inline(always)]
+fn send<P: Port>(
+    session: &Session,
+    port: &mut P,
+    datagram: &Datagram,
+    draw: &Draw,
+    output: &mut [u8],
+) -> Result<(), Failed>
+    requires bound { 0 < length (P.shown port.old).bound }
+    requires judged { judgement session.now.mode session.now.config.now datagram.now.octets.now ≡ judged.Reflect }
+    requires limit { length datagram.now.octets.now ≤ 65507 }
+    requires locals { length datagram.now.locals.now ≤ 16 }
+    requires room { length output.old ≡ 65536 }
+    ensures bound { (P.shown port.new).bound ≡ (P.shown port.old).bound }
+    ensures coming { (P.shown port.new).coming ≡ (P.shown port.old).coming }
+    ensures log { Grows (P.shown port.old).log (P.shown port.new).log (sent_entry (reflection session.now.mode session.now.extra session.now.config.now draw.now (arrived datagram.now)) result ∷ []) }
+    ensures made { (P.shown port.new).made ≡ (P.shown port.old).made }
+    ensures still { OnOk result ((P.shown port.new).faults ≡ (P.shown port.old).faults) }
+    ensures cause { OnErr result (Rises (P.shown port.old).faults (P.shown port.new).faults) }
+{
+    if !session.is_usual() {
+        return send_apart(session, port, datagram, draw, output);
+    }
+    let reply = session.reflect_usual(datagram, draw, output);
+    port.send(
+        datagram.meta.local,
+        &datagram.meta.peer,
+        &output[..reply.len],
+    )
+}
 
 /// Reads the moment, writes the reply under the number that was drawn, and sends it once.
+#[inline(always)]
 fn reply<P: Port>(
     session: &Session,
     port: &mut P,
@@ -32,52 +96,25 @@ fn reply<P: Port>(
     output: &mut [u8],
 ) -> Result<(), Unanswered>
     requires bound { 0 < length (P.shown port.old).bound }
-    requires judged { judgement session.now.key.now.mode session.now.config.now datagram.now.octets.now ≡ judged.Reflect }
+    requires judged { judgement session.now.mode session.now.config.now datagram.now.octets.now ≡ judged.Reflect }
     requires limit { length datagram.now.octets.now ≤ 65507 }
     requires locals { length datagram.now.locals.now ≤ 16 }
     requires room { length output.old ≡ 65536 }
-    ensures replies { Replies session.now.key.now session.now.extra.now session.now.config.now number (arrived datagram.now) (P.shown port.old).log (P.shown port.new).log result }
+    ensures replies { Replies session.now.mode session.now.extra session.now.config.now number (arrived datagram.now) (P.shown port.old).log (P.shown port.new).log result }
     ensures bound { (P.shown port.new).bound ≡ (P.shown port.old).bound }
     ensures coming { (P.shown port.new).coming ≡ (P.shown port.old).coming }
     ensures made { (P.shown port.new).made ≡ (P.shown port.old).made }
     ensures faults { RisesBy (failed_sends result) (P.shown port.old).faults (P.shown port.new).faults }
 {
     let sending = port.now();
-    let reply = session.reflect(datagram, &Draw { number, sending }, output);
-    match port.send(reply.from, &reply.to, &output[..reply.len]) {
+    match send(session, port, datagram, &Draw { number, sending }, output) {
         Ok(()) => Ok(()),
         Err(_) => Err(Unanswered::SendFault),
     }
 }
 
-/// The cause of a silent judgement.
-fn silence(why: Silent) -> Unanswered
-    ensures { result ≡ silence why }
-{
-    match why {
-        Silent::Short => Unanswered::Short,
-        Silent::BadHmac => Unanswered::BadHmac,
-        Silent::NoReply => Unanswered::NoReply,
-    }
-}
-
-/// Whether a datagram that was reflected under the row seen is so under the row drawn, of which the session is lent. One row
-/// is one configuration, so only another one is judged.
-fn reflects_still(session: &Session, octets: &[u8], seen: u32, drawn: u32) -> bool
-    requires same { seen ≡ drawn → judgement session.now.key.now.mode session.now.config.now octets.now ≡ judged.Reflect }
-    ensures yes { result ≡ true → judgement session.now.key.now.mode session.now.config.now octets.now ≡ judged.Reflect }
-    ensures no { result ≡ false → (seen ≢ drawn) × (why : Silent) × (judgement session.now.key.now.mode session.now.config.now octets.now ≡ judged.Silent why) }
-{
-    if seen == drawn {
-        return true;
-    }
-    match session.judge(octets) {
-        Judged::Reflect => true,
-        Judged::Silent(_) => false,
-    }
-}
-
 /// Answers a datagram, or says why not. The rows that are kept are those that the seat has read.
+#[inline(always)]
 pub(crate) fn answer<P: Port>(
     table: &Table,
     seat: &mut WorkerSeat,
@@ -100,39 +137,18 @@ pub(crate) fn answer<P: Port>(
     ensures made { (P.shown port.new).made ≡ (P.shown port.old).made }
     ensures faults { RisesBy (failed_sends result) (P.shown port.old).faults (P.shown port.new).faults }
 {
-    law_rows_read();
     law_reads();
-    let _size = table.size();
     let Datagram { meta, octets, .. } = *datagram;
-    let Seen::Held(sight) = find_by(table, seat, known, meta, octets) else {
-        return Err(Unanswered::NoSession);
-    };
-    let seen = Session {
-        key: &sight.key,
-        extra: &sight.extra,
-        config: known.config(sight.row),
-    };
-    if let Judged::Silent(why) = seen.judge(octets) {
-        retire(table, seat);
-        return Err(silence(why));
-    }
-    let drawn = draw_by(table, seat, known, &sight);
-    retire(table, seat);
-    let DrawnRow::Number { n, row } = drawn else {
-        return Err(Unanswered::NoSession);
+    let drawn = match take_turn(table, seat, known, meta, octets) {
+        Ok(drawn) => drawn,
+        Err(why) => return Err(why),
     };
     let session = Session {
-        key: &sight.key,
-        extra: &sight.extra,
-        config: known.config(row),
+        mode: drawn.mode,
+        extra: drawn.extra,
+        config: known.config(drawn.row),
     };
-    if !reflects_still(&session, octets, sight.row, row) {
-        return Err(Unanswered::Changed {
-            seen: sight.row,
-            drawn: row,
-        });
-    }
-    reply(&session, port, datagram, n, output)
+    reply(&session, port, datagram, drawn.number, output)
 }
 
 /// Makes one turn, from the taking of a datagram on: its session is found, its number drawn, and the reply sent, or it is told

@@ -19,7 +19,7 @@ use Rattle.reflect_core.specs.declared.reflecting.Reply.{Reply}
 use Rattle.reflect_core.specs.Base.{reply_base}
 use Rattle.reflect_core.specs.declared.ends.Ends.{Ends}
 use Rattle.reflect_core.specs.Arrived.{Arrived}
-use Rattle.reflect_core.specs.Ends.{usual_ends, plan_after, ends_after, ends_of}
+use Rattle.reflect_core.specs.Ends.{usual_ends, plan_after, ends_after, ends_of, ends_told}
 use Rattle.reflect_core.specs.Reflection.{Reflected, IsReply, plain_reflection, auth_reflection, test_reflection, reflected_octets}
 
 -- ---- what was read
@@ -42,25 +42,18 @@ read_ok octets s le e = ok_of (ltb (length octets) 44) (record {}) (sender_of oc
 pub base_is : (p c : ConfigParts) (draw : Draw) (m : Meta) (s s' : SenderBase) (base : ReplyBase) → base ≡ reply_base p draw m s → p ≡ c → s ≡ s' → base ≡ reply_base c draw m s'
 base_is p c draw m s s' base e same sender = e ∙ ap (λ (q : ConfigParts). reply_base q draw m s) same ∙ ap (reply_base c draw m) sender
 
--- of a datagram's facts only its TTL and its arrival are told
-pub base_told : (c : ConfigParts) (draw : Draw) (m n : Meta) (s : SenderBase) → m.ttl ≡ n.ttl → m.arrival ≡ n.arrival → reply_base c draw m s ≡ reply_base c draw n s
-unfolding reply_base
-base_told c draw m n s ttl arrival =
-    ap (λ (t : Option ℕ). let x : Meta = record m { ttl = t } in reply_base c draw x s) ttl
-    ∙ ap (λ (a : ℕ). let x : Meta = record n { arrival = a } in reply_base c draw x s) arrival
-
 pub block_is : (key : Option (List ℕ)) (block : List ℕ) → key ≡ Some block → block ≡ block_octets key
 block_is key block e = sym (ap block_octets e)
 
 -- ---- the reply by mode
 
 -- what is written, between which ends
-pub replied : (r : Reflected) (reply : Reply) (ends : Ends) (old new octets : List ℕ) (len : ℕ) → reply.from ≡ ends.from → reply.to ≡ ends.to → reply.len ≡ len → ends.from ≡ r.from → ends.to ≡ r.to → new ≡ octets ++ drop len old → octets ≡ r.octets → length new ≡ length old → len ≤ length old → IsReply r reply old new
-replied r reply ends old new octets len from to end_ of_from of_to e is kept le =
+pub replied : (r : Reflected) (m : Meta) (reply : Reply) (ends : Ends) (old new octets : List ℕ) (len : ℕ) → ends_told reply.elsewhere m ≡ ends → reply.len ≡ len → ends.from ≡ r.from → ends.to ≡ r.to → new ≡ octets ++ drop len old → octets ≡ r.octets → length new ≡ length old → len ≤ length old → IsReply r m reply old new
+replied r m reply ends old new octets len told end_ of_from of_to e is kept le =
     let all : new ≡ r.octets ++ drop len old = e ∙ ap (λ (x : List ℕ). x ++ drop len old) is in
     record {
-      from = from ∙ of_from;
-      to = to ∙ of_to;
+      from = ap (λ (x : Ends). x.from) told ∙ of_from;
+      to = ap (λ (x : Ends). x.to) told ∙ of_to;
       len = end_ ∙ sym (length_written r.octets old new len all kept le);
       octets = all ∙ ap (λ (n : ℕ). r.octets ++ drop n old) (sym end_);
     }

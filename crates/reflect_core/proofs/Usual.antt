@@ -7,13 +7,10 @@ use Rattle.refl_types.specs.declared.types.Mode.TheVariants.{Plain, Auth, Twamp}
 use Rattle.refl_types.specs.declared.outcome.Silent.TheVariants.{NoReply}
 use Rattle.refl_types.specs.declared.types.Endpoint.{Endpoint}
 use Rattle.refl_types.specs.declared.types.Extra.{Extra}
-use Rattle.refl_types.specs.declared.types.Key.{Key}
 use Rattle.refl_types.specs.declared.types.Meta.{Meta}
 use Rattle.refl_types.specs.declared.config.ConfigParts.{ConfigParts}
 use Rattle.refl_types.specs.Spelling.{block_octets}
 use Rattle.stamp_packet.specs.Plain.{plain_reply, sender_of}
-use Rattle.stamp_auth.specs.Request.{auth_sender_of}
-use Rattle.stamp_auth.specs.Reply.{auth_reply}
 use Rattle.tlv_chain.specs.Tlv.{Tlv, tlv_octets, tlvs_octets}
 use Rattle.tlv_chain.specs.Split.{Split, split}
 use Rattle.tlv_actions.specs.declared.facts.Plan.{Plan}
@@ -33,7 +30,7 @@ use Rattle.reflect_core.specs.Arrived.{Arrived}
 use Rattle.reflect_core.specs.Base.{reply_base}
 use Rattle.reflect_core.specs.Ends.{has_intact_tail, usual_ends, planned_ends, plan_after, ends_after}
 use Rattle.reflect_core.specs.Tail.{processed, reply_by, tail_reply}
-use Rattle.reflect_core.specs.Reflection.{plain_reflection, auth_reflection, reflection, IsReply, WritesPlain}
+use Rattle.reflect_core.specs.Reflection.{plain_reflection, reflection, IsReply, WritesPlain}
 use Rattle.reflect_core.proofs.Modes.{plain_is, plain_ends, replied}
 
 -- ---- the TLVs of a reply don't tell its ends
@@ -88,12 +85,6 @@ plain_usual c draw d p neither none =
     ap (λ (o : List ℕ). plain_reply base ++ o) (sym (tail_reply-ends c draw.number d.meta.local d.meta.peer p Plain (field 0 4 d.octets) (to_be_bytes w32 base.sequence) (drop 44 d.octets)))
     ∙ ap (λ (x : Plan). plain_reflection c x draw d) (plan_is 44 c d p neither none)
 
-pub auth_usual : (c : ConfigParts) (draw : Draw) (d : Arrived) (p : Plan) → NeitherUnderstood c → HasNoPlaces p → auth_reflection c p draw d ≡ auth_reflection c (plan_after 112 c d) draw d
-auth_usual c draw d p neither none =
-    let base = reply_base c draw d.meta (auth_sender_of d.octets) in
-    ap (λ (o : List ℕ). auth_reply (block_octets c.key) base ++ o) (sym (tail_reply-ends c draw.number d.meta.local d.meta.peer p Auth (field 0 4 d.octets) (to_be_bytes w32 base.sequence) (drop 112 d.octets)))
-    ∙ ap (λ (x : Plan). auth_reflection c x draw d) (plan_is 112 c d p neither none)
-
 -- ---- the ends
 
 either : (b : Bool) (x y : Ends) → x ≡ y → y ≡ (if b then x else y)
@@ -136,13 +127,13 @@ judged_usual_plain mode c octets e neither = plain_base mode c octets e ∙ judg
 
 -- ---- the reply in mode Plain
 
-pub replied_usual_plain : (k : Key) (x : Extra) (c : ConfigParts) (draw : Draw) (d : Arrived) (p : Plan) (old new : List ℕ) → k.mode ≡ Plain → NeitherUnderstood c → HasNoPlaces p
+pub replied_usual : (mode : Mode) (x : Extra) (c : ConfigParts) (draw : Draw) (d : Arrived) (p : Plan) (old new : List ℕ) → mode ≡ Plain → NeitherUnderstood c → HasNoPlaces p
     → length d.octets ≤ length old → length new ≡ length old → WritesPlain c p draw d old new
-    → IsReply (reflection k x c draw d) (record { from = d.meta.local; to = d.meta.peer; len = length d.octets }) old new
-replied_usual_plain k x c draw d p old new mode usual none room kept writes =
+    → IsReply (reflection mode x c draw d) d.meta (record { elsewhere = None; len = length d.octets }) old new
+replied_usual mode x c draw d p old new plain usual none room kept writes =
     let n : ℕ = length d.octets in
-    let ends = ends_usual 44 Plain c d usual ∙ plain_ends k.mode c d mode in
-    replied (reflection k x c draw d) (record { from = d.meta.local; to = d.meta.peer; len = n }) (usual_ends d.meta) old new (plain_reflection c (plan_after 44 c d) draw d) n refl refl refl
+    let ends = ends_usual 44 Plain c d usual ∙ plain_ends mode c d plain in
+    replied (reflection mode x c draw d) d.meta (record { elsewhere = None; len = n }) (usual_ends d.meta) old new (plain_reflection c (plan_after 44 c d) draw d) n refl refl
     (ap (λ (e : Ends). e.from) ends) (ap (λ (e : Ends). e.to) ends)
     (writes ∙ ap (λ (o : List ℕ). o ++ drop n old) (plain_usual c draw d p usual none))
-    (plain_is k.mode x c draw d mode) kept room
+    (plain_is mode x c draw d plain) kept room

@@ -1,6 +1,6 @@
 -- From where and to whom a reply is sent (RFC 8762, section 4.3; RFC 9503, sections 3 and 4). That a tail whose integrity
 -- failed is asked nothing is this project's own.
-use Rattle.std.specs.Prelude.{ℕ, Bool, ◌||◌, true, false, if◌then◌else◌, List, drop}
+use Rattle.std.specs.Prelude.{ℕ, Bool, ◌||◌, true, false, if◌then◌else◌, List, drop, Option, Some, None}
 use Rattle.octet_format.specs.Octets.{field}
 use Rattle.refl_types.specs.declared.types.Mode.{Mode}
 use Rattle.refl_types.specs.declared.types.Mode.TheVariants.{Plain, Auth, Twamp}
@@ -35,6 +35,11 @@ usual_ends m = record { from = m.local; to = m.peer }
 
 abbrev pub planned_ends : Plan → Ends
 planned_ends plan = record { from = plan.from; to = plan.to }
+
+-- the ends that are told, or from where the datagram arrived to its sender where none are
+abbrev pub ends_told : Option Ends → Meta → Ends
+ends_told None m = usual_ends m
+ends_told (Some e) m = e
 
 -- what the tail behind a base packet of as many octets asks for
 abbrev pub plan_after : ℕ → ConfigParts → Arrived → Plan

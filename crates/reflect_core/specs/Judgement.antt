@@ -45,5 +45,5 @@ abbrev pub judgement : Mode → ConfigParts → List ℕ → Judged
 judgement mode c octets = and_then (judged_base mode c octets) (judged_behind mode c octets)
 
 -- a session of mode Plain under a configuration with which no tail may say from where and to whom its reply is sent
-abbrev pub IsUsualPlain : Mode → ConfigParts → Type 0
-IsUsualPlain mode c = (mode ≡ Plain) × (may_redirect c ≡ false)
+abbrev pub IsUsual : Mode → ConfigParts → Type 0
+IsUsual mode c = (mode ≡ Plain) × (may_redirect c ≡ false)

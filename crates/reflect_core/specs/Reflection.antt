@@ -3,8 +3,8 @@ use Rattle.std.specs.Prelude.{◌≡◌, ℕ, List, ◌++◌, length, drop}
 use Rattle.refl_types.specs.declared.types.Mode.{Mode}
 use Rattle.refl_types.specs.declared.types.Mode.TheVariants.{Plain, Auth, Twamp}
 use Rattle.refl_types.specs.declared.types.Endpoint.{Endpoint}
+use Rattle.refl_types.specs.declared.types.Meta.{Meta}
 use Rattle.refl_types.specs.declared.types.Extra.{Extra}
-use Rattle.refl_types.specs.declared.types.Key.{Key}
 use Rattle.refl_types.specs.declared.config.ConfigParts.{ConfigParts}
 use Rattle.refl_types.specs.Spelling.{block_octets}
 use Rattle.stamp_packet.specs.declared.fields.ReplyBase.{ReplyBase}
@@ -19,7 +19,7 @@ use Rattle.reflect_core.specs.declared.session.Draw.{Draw}
 use Rattle.reflect_core.specs.declared.reflecting.Reply.{Reply}
 use Rattle.reflect_core.specs.Arrived.{Arrived}
 use Rattle.reflect_core.specs.Base.{reply_base}
-use Rattle.reflect_core.specs.Ends.{plan_after, ends_of}
+use Rattle.reflect_core.specs.Ends.{plan_after, ends_of, ends_told}
 use Rattle.reflect_core.specs.Tail.{tail_after}
 
 -- ---- the octets, from the fields of the base packet
@@ -65,18 +65,18 @@ pub record Reflected : Type 0 where
   pub to : Endpoint
   pub octets : List ℕ
 
--- of a datagram in a session with a key, an extra and a configuration, under the number that was drawn and the moment of
+-- of a datagram in a session of a mode, with an extra and a configuration, under the number that was drawn and the moment of
 -- sending
-abbrev pub reflection : Key → Extra → ConfigParts → Draw → Arrived → Reflected
-reflection k x c draw d = record {
-  from = (ends_of k.mode c d).from;
-  to = (ends_of k.mode c d).to;
-  octets = reflected_octets k.mode x c draw d;
+abbrev pub reflection : Mode → Extra → ConfigParts → Draw → Arrived → Reflected
+reflection mode x c draw d = record {
+  from = (ends_of mode c d).from;
+  to = (ends_of mode c d).to;
+  octets = reflected_octets mode x c draw d;
 }
 
--- A reply was written to the front of a buffer. All other octets are as before.
-pub record IsReply (r : Reflected) (reply : Reply) (old new : List ℕ) : Type 0 where
-  pub from : reply.from ≡ r.from
-  pub to : reply.to ≡ r.to
+-- A reply to a datagram of which this is told was written to the front of a buffer. All other octets are as before.
+pub record IsReply (r : Reflected) (m : Meta) (reply : Reply) (old new : List ℕ) : Type 0 where
+  pub from : (ends_told reply.elsewhere m).from ≡ r.from
+  pub to : (ends_told reply.elsewhere m).to ≡ r.to
   pub len : reply.len ≡ length r.octets
   pub octets : new ≡ r.octets ++ drop reply.len old

@@ -17,7 +17,7 @@ pub struct Ends {
 
 /// From where a datagram arrived, to its sender.
 #[inline(always)]
-pub fn usual_ends(meta: &Meta) -> Ends
+fn usual_ends(meta: &Meta) -> Ends
     ensures { result ≡ usual_ends meta.now }
 {
     Ends {

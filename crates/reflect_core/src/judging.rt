@@ -1,9 +1,9 @@
 //! Whether a datagram of a session is reflected (RFC 8762, section 4.3; RFC 9503, section 4.1.1).
 
-ghost use Rattle.std.specs.Prelude.{◌≡◌, ◌≤◌, true, false, IsSome, length};
+ghost use Rattle.std.specs.Prelude.{◌≡◌, ◌≤◌, false, IsSome, length};
 ghost use Rattle.refl_types.specs.HmacKey.{HasHmacKey};
-ghost use Rattle.refl_types.specs.declared.types.Mode.TheVariants.{Twamp};
-ghost use Rattle.reflect_core.specs.Judgement.{IsUsualPlain, judgement, judged_length, judged_auth, judged_base, judged_tail};
+ghost use Rattle.refl_types.specs.declared.types.Mode.TheVariants.{Auth};
+ghost use Rattle.reflect_core.specs.Judgement.{IsUsual, judgement, judged_length, judged_auth, judged_base, judged_tail};
 
 use crate::session::Session;
 use crate::tails::has_intact_tail;
@@ -11,7 +11,7 @@ use keyed_config::KeyedConfig;
 use refl_types::{Config, Extra, Key, Mode, Silent};
 use stamp_auth::{AUTH_LEN, AuthFault, read_auth_keyed};
 use stamp_packet::PLAIN_LEN;
-use tlv_actions::{may_redirect, no_reply};
+use tlv_actions::no_reply;
 use twamp_test::TEST_LEN;
 
 /// An extra that doesn't matter where a datagram is judged.
@@ -69,90 +69,58 @@ fn judge_tail(mode: Mode, config: &KeyedConfig, octets: &[u8], at: usize) -> Jud
     }
 }
 
-/// Whether a session is of mode Plain, under a configuration with which no tail may say from where and to whom its reply is
-/// sent.
+/// Whether the base packet of a datagram is one: not where it is shorter than that of the session's mode, and in mode Auth not
+/// where its HMAC is another.
 #[inline(always)]
-pub fn is_usual_plain(mode: Mode, config: &KeyedConfig) -> bool
-    ensures yes { result ≡ true → IsUsualPlain mode config.now }
-    ensures no { result ≡ false → ¬ IsUsualPlain mode config.now }
+fn judge_base(mode: Mode, config: &KeyedConfig, octets: &[u8]) -> Judged
+    requires keyed { mode ≡ Auth → IsSome config.now.key }
+    ensures { result ≡ judged_base mode config.now octets.now }
 {
-    // Both are asked at once, for one branch.
-    let usual = !may_redirect(config.config());
     match mode {
-        Mode::Plain => usual,
-        Mode::Auth | Mode::Twamp => false,
+        Mode::Plain => judge_length(octets, PLAIN_LEN),
+        Mode::Twamp => judge_length(octets, TEST_LEN),
+        Mode::Auth => judge_auth(config, octets),
+    }
+}
+
+/// Whether a datagram is reflected, where its tail may ask for no reply or its base packet has an HMAC. It stands out of line.
+#[cold]
+#[inline(never)]
+fn judge_whole(mode: Mode, config: &KeyedConfig, octets: &[u8]) -> Judged
+    requires keyed { mode ≡ Auth → IsSome config.now.key }
+    ensures { result ≡ judgement mode config.now octets.now }
+{
+    let base = judge_base(mode, config, octets);
+    if base != Judged::Reflect {
+        return base;
+    }
+    match mode {
+        Mode::Plain => judge_tail(Mode::Plain, config, octets, PLAIN_LEN),
+        Mode::Twamp => Judged::Reflect,
+        Mode::Auth => judge_tail(Mode::Auth, config, octets, AUTH_LEN),
     }
 }
 
 impl Session<'_> {
-    /// Whether the base packet of a datagram of the session is one: not where it is shorter than that of the session's
-    /// mode, and in mode Auth not where its HMAC is another.
+    /// Judges a datagram as `judge` does, where `is_usual` is true.
     #[inline(always)]
-    fn judge_base(&self, octets: &[u8]) -> Judged
-        ensures { result ≡ judged_base self.now.key.now.mode self.now.config.now octets.now }
-    {
-        match self.key.mode {
-            Mode::Plain => judge_length(octets, PLAIN_LEN),
-            Mode::Twamp => judge_length(octets, TEST_LEN),
-            Mode::Auth => judge_auth(self.config, octets),
-        }
-    }
-
-    /// Whether a datagram is reflected, where its tail may ask for no reply.
-    #[inline(never)]
-    fn judge_whole(&self, octets: &[u8]) -> Judged
-        ensures { result ≡ judgement self.now.key.now.mode self.now.config.now octets.now }
-    {
-        let base = self.judge_base(octets);
-        if base != Judged::Reflect {
-            return base;
-        }
-        match self.key.mode {
-            Mode::Plain => judge_tail(Mode::Plain, self.config, octets, PLAIN_LEN),
-            Mode::Twamp => Judged::Reflect,
-            Mode::Auth => judge_tail(Mode::Auth, self.config, octets, AUTH_LEN),
-        }
-    }
-
-    /// Judges a datagram as `judge` does, in a session of mode Twamp.
-    #[inline(always)]
-    fn judge_test(&self, octets: &[u8]) -> Judged
-        requires { self.now.key.now.mode ≡ Twamp }
-        ensures { result ≡ judgement self.now.key.now.mode self.now.config.now octets.now }
-    {
-        judge_length(octets, TEST_LEN)
-    }
-
-    /// Judges a datagram as `judge` does, where `is_usual_plain` is true.
-    #[inline(always)]
-    pub fn judge_usual_plain(&self, octets: &[u8]) -> Judged
-        requires { IsUsualPlain self.now.key.now.mode self.now.config.now }
-        ensures { result ≡ judgement self.now.key.now.mode self.now.config.now octets.now }
+    fn judge_usual(&self, octets: &[u8]) -> Judged
+        requires { IsUsual self.now.mode self.now.config.now }
+        ensures { result ≡ judgement self.now.mode self.now.config.now octets.now }
     {
         judge_length(octets, PLAIN_LEN)
-    }
-
-    /// Whether a datagram is reflected, where its tail is asked only if it may say something.
-    #[inline(always)]
-    fn judge_stamp(&self, octets: &[u8]) -> Judged
-        ensures { result ≡ judgement self.now.key.now.mode self.now.config.now octets.now }
-    {
-        if self.may_redirect() {
-            return self.judge_whole(octets);
-        }
-        self.judge_base(octets)
     }
 
     /// Whether a datagram of the session is reflected: not where it is shorter than the base packet of the session's
     /// mode, in mode Auth not where the HMAC of its base packet is another, and not where its tail asks for no reply.
     #[inline(always)]
     pub fn judge(&self, octets: &[u8]) -> Judged
-        ensures { result ≡ judgement self.now.key.now.mode self.now.config.now octets.now }
+        ensures { result ≡ judgement self.now.mode self.now.config.now octets.now }
     {
-        match self.key.mode {
-            Mode::Twamp => self.judge_test(octets),
-            Mode::Plain | Mode::Auth => self.judge_stamp(octets),
+        if self.is_usual() {
+            return self.judge_usual(octets);
         }
+        judge_whole(self.mode, self.config, octets)
     }
 }
 
@@ -163,8 +131,8 @@ pub fn judge(key: &Key, config: &Config, octets: &[u8]) -> Judged
 {
     let config = KeyedConfig::of(config);
     let session = Session {
-        key,
-        extra: &NO_EXTRA,
+        mode: key.mode,
+        extra: NO_EXTRA,
         config: &config,
     };
     session.judge(octets)

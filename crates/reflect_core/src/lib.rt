@@ -11,6 +11,7 @@ mod tails;
 #[cfg(test)]
 mod tests;
 
-pub use judging::{Judged, is_usual_plain, judge};
+pub use ends::Ends;
+pub use judging::{Judged, judge};
 pub use reflecting::{Reply, reflect};
 pub use session::{Datagram, Draw, Session};

@@ -1,19 +1,17 @@
 //! The reflection of a datagram (RFC 8762, section 4.3; RFC 9503, sections 3 and 4; RFC 5357, section 4.2).
 
-ghost use Rattle.std.specs.Prelude.{◌≡◌, ◌≤◌, false, IsSome, List, length};
+ghost use Rattle.std.specs.Prelude.{◌≡◌, ◌≤◌, true, false, None, IsSome, length};
 ghost use Rattle.refl_types.specs.HmacKey.{HasHmacKey};
 ghost use Rattle.refl_types.specs.Limits.{datagram_limit};
 ghost use Rattle.refl_types.specs.declared.types.Mode.TheVariants.{Plain, Auth, Twamp};
 ghost use Rattle.reflect_core.specs.declared.judging.Judged.TheVariants.{Reflect};
-ghost use Rattle.reflect_core.specs.Judgement.{IsUsualPlain, judgement};
+ghost use Rattle.reflect_core.specs.Judgement.{IsUsual, judgement};
 ghost use Rattle.reflect_core.specs.Arrived.{arrived};
 ghost use Rattle.reflect_core.specs.Ends.{has_intact_tail, may_redirect, plan_after};
 ghost use Rattle.reflect_core.specs.Reflection.{WritesPlain, WritesAuth, WritesTest, reflection, IsReply};
-ghost use Rattle.refl_types.specs.declared.types.Endpoint.{Endpoint};
-ghost use Rattle.refl_types.specs.declared.types.Meta.{Meta};
 
 use crate::base::reply_base;
-use crate::ends::{Ends, ends_of, usual_ends};
+use crate::ends::{Ends, ends_of};
 use crate::session::{Datagram, Draw, Session};
 use crate::tails::write_tail_after;
 use keyed_config::KeyedConfig;
@@ -23,13 +21,11 @@ use stamp_packet::{PLAIN_LEN, read_plain, write_plain_to};
 use tlv_actions::{Plan, may_redirect, plan};
 use twamp_test::{read_test, write_test_to};
 
-/// Where a reply is sent, and how many octets of the buffer it has.
+/// How many octets of the buffer a reply has, and where it is sent if not back.
 #[derive(Clone, Copy, Debug, PartialEq, Eq)]
 pub struct Reply {
-    /// The number of the local address that sends it.
-    pub from: u16,
-    /// Whom it is sent to.
-    pub to: Endpoint,
+    /// From where and to whom it is sent; nothing where it goes from where the datagram arrived to its sender.
+    pub elsewhere: Option<Ends>,
     /// Its length.
     pub len: usize,
 }
@@ -57,20 +53,6 @@ fn plan_after(at: usize, config: &KeyedConfig, datagram: &Datagram) -> Plan
 {
     let (_, tail) = datagram.octets.split_at(at);
     plan(config.config(), datagram.locals, datagram.meta, tail)
-}
-
-/// A reply of so many octets.
-#[inline(always)]
-fn reply_of(ends: &Ends, len: usize) -> Reply
-    ensures from { result.from ≡ ends.now.from }
-    ensures to { result.to ≡ ends.now.to }
-    ensures len { result.len ≡ len }
-{
-    Reply {
-        from: ends.from,
-        to: ends.to,
-        len,
-    }
 }
 
 /// Writes the reply of an unauthenticated STAMP session, and says whether the integrity of the tail hasn't failed.
@@ -103,37 +85,26 @@ fn reflect_plain(
     )
 }
 
-/// Writes the reply of an authenticated STAMP session, and says whether the integrity of the tail hasn't failed. It
-/// stands out of line and takes copies of what it needs, so that the fields of an unauthenticated datagram can stay in
-/// registers.
-#[inline(never)]
+/// Writes the reply of an authenticated STAMP session, and says whether the integrity of the tail hasn't failed.
 fn reflect_auth(
     config: &KeyedConfig,
     plan: &Plan,
-    draw: Draw,
-    ttl: Option<u8>,
-    arrival: u64,
-    input: &[u8],
+    draw: &Draw,
+    datagram: &Datagram,
     out: &mut [u8],
 ) -> bool
     requires key { IsSome config.now.key }
-    requires judged { 112 ≤ length input.now }
-    requires room { length input.now ≤ length out.old }
-    ensures intact { result ≡ has_intact_tail 112 Auth config.now input.now }
-    ensures octets { (meta : Meta) (locals : List Endpoint) → meta.ttl ≡ ttl → meta.arrival ≡ arrival → WritesAuth config.now plan.now draw (record { meta = meta; octets = input.now; locals = locals }) out.old out.new }
+    requires judged { 112 ≤ length datagram.now.octets.now }
+    requires room { length datagram.now.octets.now ≤ length out.old }
+    ensures intact { result ≡ has_intact_tail 112 Auth config.now datagram.now.octets.now }
+    ensures octets { WritesAuth config.now plan.now draw.now (arrived datagram.now) out.old out.new }
 {
     let Some(key) = config.hmac_key() else {
         unreachable!();
     };
-    let meta = Meta {
-        local: 0,
-        peer: NO_END,
-        len: input.len(),
-        ttl,
-        arrival,
-    };
+    let input = datagram.octets;
     let sender = auth_sender(input);
-    let base = reply_base(config.as_parts(), &draw, &meta, &sender);
+    let base = reply_base(config.as_parts(), draw, datagram.meta, &sender);
     write_auth_keyed(key, &base, out);
     write_tail_after(
         Mode::Auth,
@@ -148,7 +119,6 @@ fn reflect_auth(
 }
 
 /// Writes the reply of a TWAMP-Test session, and says how many octets it has.
-#[inline(always)]
 fn reflect_test(
     extra: &Extra,
     config: &KeyedConfig,
@@ -167,6 +137,61 @@ fn reflect_test(
     write_test_to(extra, &base, datagram.octets, out)
 }
 
+/// Writes the reply as `Session::reflect` does. It stands out of line and takes copies of what it needs, so that what the usual
+/// datagrams need can stay in registers.
+#[cold]
+#[inline(never)]
+fn reflect_apart(
+    mode: Mode,
+    extra: Extra,
+    config: &KeyedConfig,
+    meta: Meta,
+    octets: &[u8],
+    locals: &[LocalAddr],
+    draw: Draw,
+    out: &mut [u8],
+) -> Reply
+    requires keyed { mode ≡ Auth → IsSome config.now.key }
+    requires judged { judgement mode config.now octets.now ≡ Reflect }
+    requires limit { length octets.now ≤ datagram_limit }
+    requires locals { length locals.now ≤ 16 }
+    requires room { 65536 ≤ length out.old }
+    ensures reply { IsReply (reflection mode extra config.now draw (record { meta = meta; octets = octets.now; locals = locals.now })) meta result out.old out.new }
+    ensures limit { result.len ≤ datagram_limit }
+    ensures size { (mode ≡ Twamp → ⊥) → result.len ≡ length octets.now }
+{
+    let datagram = Datagram {
+        meta: &meta,
+        octets,
+        locals,
+    };
+    match mode {
+        Mode::Plain => {
+            let plan = plan_after(PLAIN_LEN, config, &datagram);
+            let intact = reflect_plain(config, &plan, &draw, &datagram, out);
+            Reply {
+                elsewhere: Some(ends_of(intact, &plan, &meta)),
+                len: octets.len(),
+            }
+        }
+        Mode::Twamp => {
+            let len = reflect_test(&extra, config, &draw, &datagram, out);
+            Reply {
+                elsewhere: None,
+                len,
+            }
+        }
+        Mode::Auth => {
+            let plan = plan_after(AUTH_LEN, config, &datagram);
+            let intact = reflect_auth(config, &plan, &draw, &datagram, out);
+            Reply {
+                elsewhere: Some(ends_of(intact, &plan, &meta)),
+                len: octets.len(),
+            }
+        }
+    }
+}
+
 impl Session<'_> {
     /// Whether a tail of the session may say from where and to whom its reply is sent.
     #[inline(always)]
@@ -176,122 +201,65 @@ impl Session<'_> {
         may_redirect(self.config.config())
     }
 
-    /// Writes the reply as `reflect` does, where `is_usual_plain` is true. It has as many octets as the datagram, and is sent
-    /// from where that arrived to its sender, whatever the reflector's own addresses are.
+    /// Whether it is of mode Plain, and no tail may say from where and to whom its reply is sent.
     #[inline(always)]
-    pub fn reflect_usual_plain(&self, meta: &Meta, octets: &[u8], draw: &Draw, out: &mut [u8])
-        requires usual { IsUsualPlain self.now.key.now.mode self.now.config.now }
-        requires judged { judgement self.now.key.now.mode self.now.config.now octets.now ≡ Reflect }
-        requires room { length octets.now ≤ length out.old }
-        ensures { (locals : List Endpoint) → IsReply (reflection self.now.key.now self.now.extra.now self.now.config.now draw.now (record { meta = meta.now; octets = octets.now; locals = locals })) (record { from = meta.now.local; to = meta.now.peer; len = length octets.now }) out.old out.new }
+    pub fn is_usual(&self) -> bool
+        ensures yes { result ≡ true → IsUsual self.now.mode self.now.config.now }
+        ensures no { result ≡ false → ¬ IsUsual self.now.mode self.now.config.now }
     {
-        let datagram = Datagram {
-            meta,
-            octets,
-            locals: &[],
-        };
-        let _intact = reflect_plain(self.config, &NO_PLACES, draw, &datagram, out);
-    }
-
-    /// Writes the reply as `reflect` does, where no tail may say from where and to whom it is sent, and says how many octets
-    /// it has: in mode Twamp, and where `may_redirect` is false. It is sent from where the datagram arrived to its sender,
-    /// whatever the reflector's own addresses are.
-    #[inline(always)]
-    fn reflect_usual(&self, meta: &Meta, octets: &[u8], draw: &Draw, out: &mut [u8]) -> usize
-        requires usual { (self.now.key.now.mode ≡ Twamp → ⊥) → may_redirect self.now.config.now ≡ false }
-        requires judged { judgement self.now.key.now.mode self.now.config.now octets.now ≡ Reflect }
-        requires limit { length octets.now ≤ datagram_limit }
-        requires room { 65536 ≤ length out.old }
-        ensures reply { (locals : List Endpoint) → IsReply (reflection self.now.key.now self.now.extra.now self.now.config.now draw.now (record { meta = meta.now; octets = octets.now; locals = locals })) (record { from = meta.now.local; to = meta.now.peer; len = result }) out.old out.new }
-        ensures limit { result ≤ datagram_limit }
-        ensures size { (self.now.key.now.mode ≡ Twamp → ⊥) → result ≡ length octets.now }
-    {
-        let config = self.config;
-        match self.key.mode {
-            Mode::Plain => {
-                self.reflect_usual_plain(meta, octets, draw, out);
-                octets.len()
-            }
-            Mode::Twamp => {
-                let datagram = Datagram {
-                    meta,
-                    octets,
-                    locals: &[],
-                };
-                reflect_test(self.extra, config, draw, &datagram, out)
-            }
-            Mode::Auth => {
-                let (ttl, arrival) = (meta.ttl, meta.arrival);
-                let _intact = reflect_auth(config, &NO_PLACES, *draw, ttl, arrival, octets, out);
-                octets.len()
-            }
+        match self.mode {
+            Mode::Plain => !self.may_redirect(),
+            Mode::Twamp | Mode::Auth => false,
         }
     }
 
-    /// Writes the reply, where a tail may say from where and to whom it is sent.
-    #[inline(never)]
-    fn reflect_planned(
-        &self,
-        meta: Meta,
-        octets: &[u8],
-        locals: &[LocalAddr],
-        draw: Draw,
-        out: &mut [u8],
-    ) -> Reply
-        requires judged { judgement self.now.key.now.mode self.now.config.now octets.now ≡ Reflect }
-        requires limit { length octets.now ≤ datagram_limit }
-        requires locals { length locals.now ≤ 16 }
-        requires room { 65536 ≤ length out.old }
-        ensures reply { IsReply (reflection self.now.key.now self.now.extra.now self.now.config.now draw (record { meta = meta; octets = octets.now; locals = locals.now })) result out.old out.new }
-        ensures limit { result.len ≤ datagram_limit }
-        ensures size { (self.now.key.now.mode ≡ Twamp → ⊥) → result.len ≡ length octets.now }
+    /// Writes the reply as `reflect` does, where `is_usual` is true: it goes from where the datagram arrived to its sender, and has
+    /// as many octets.
+    #[inline(always)]
+    pub fn reflect_usual(&self, datagram: &Datagram, draw: &Draw, out: &mut [u8]) -> Reply
+        requires usual { IsUsual self.now.mode self.now.config.now }
+        requires judged { judgement self.now.mode self.now.config.now datagram.now.octets.now ≡ Reflect }
+        requires room { length datagram.now.octets.now ≤ length out.old }
+        ensures reply { IsReply (reflection self.now.mode self.now.extra self.now.config.now draw.now (arrived datagram.now)) datagram.now.meta.now result out.old out.new }
+        ensures len { result.len ≡ length datagram.now.octets.now }
+        ensures back { result.elsewhere ≡ None }
     {
-        let config = self.config;
-        let datagram = Datagram {
-            meta: &meta,
-            octets,
-            locals,
-        };
-        match self.key.mode {
-            Mode::Plain => {
-                let plan = plan_after(PLAIN_LEN, config, &datagram);
-                let intact = reflect_plain(config, &plan, &draw, &datagram, out);
-                reply_of(&ends_of(intact, &plan, &meta), octets.len())
-            }
-            Mode::Twamp => {
-                let len = reflect_test(self.extra, config, &draw, &datagram, out);
-                reply_of(&usual_ends(&meta), len)
-            }
-            Mode::Auth => {
-                let plan = plan_after(AUTH_LEN, config, &datagram);
-                let (ttl, arrival) = (meta.ttl, meta.arrival);
-                let intact = reflect_auth(config, &plan, draw, ttl, arrival, octets, out);
-                reply_of(&ends_of(intact, &plan, &meta), octets.len())
-            }
+        let _intact = reflect_plain(self.config, &NO_PLACES, draw, datagram, out);
+        Reply {
+            elsewhere: None,
+            len: datagram.octets.len(),
         }
     }
 
     /// Writes the reply to a datagram that is to be reflected. Octets of the buffer past the reply stay.
     #[inline(always)]
     pub fn reflect(&self, datagram: &Datagram, draw: &Draw, out: &mut [u8]) -> Reply
-        requires judged { judgement self.now.key.now.mode self.now.config.now datagram.now.octets.now ≡ Reflect }
+        requires judged { judgement self.now.mode self.now.config.now datagram.now.octets.now ≡ Reflect }
         requires limit { length datagram.now.octets.now ≤ datagram_limit }
         requires locals { length datagram.now.locals.now ≤ 16 }
         requires room { 65536 ≤ length out.old }
-        ensures reply { IsReply (reflection self.now.key.now self.now.extra.now self.now.config.now draw.now (arrived datagram.now)) result out.old out.new }
+        ensures reply { IsReply (reflection self.now.mode self.now.extra self.now.config.now draw.now (arrived datagram.now)) datagram.now.meta.now result out.old out.new }
         ensures limit { result.len ≤ datagram_limit }
-        ensures size { (self.now.key.now.mode ≡ Twamp → ⊥) → result.len ≡ length datagram.now.octets.now }
+        ensures size { (self.now.mode ≡ Twamp → ⊥) → result.len ≡ length datagram.now.octets.now }
     {
-        if self.may_redirect() {
-            let Datagram {
-                meta,
-                octets,
-                locals,
-            } = *datagram;
-            return self.reflect_planned(*meta, octets, locals, *draw, out);
+        if self.is_usual() {
+            return self.reflect_usual(datagram, draw, out);
         }
-        let len = self.reflect_usual(datagram.meta, datagram.octets, draw, out);
-        reply_of(&usual_ends(datagram.meta), len)
+        let Datagram {
+            meta,
+            octets,
+            locals,
+        } = *datagram;
+        reflect_apart(
+            self.mode,
+            self.extra,
+            self.config,
+            *meta,
+            octets,
+            locals,
+            *draw,
+            out,
+        )
     }
 }
 
@@ -313,14 +281,14 @@ pub fn reflect(
     requires limit { length input.now ≤ datagram_limit }
     requires locals { length locals.now ≤ 16 }
     requires room { 65536 ≤ length out.old }
-    ensures reply { IsReply (reflection key.now extra.now config.now (record { number = n; sending = t3 }) (record { meta = meta.now; octets = input.now; locals = locals.now })) result out.old out.new }
+    ensures reply { IsReply (reflection key.now.mode extra.now config.now (record { number = n; sending = t3 }) (record { meta = meta.now; octets = input.now; locals = locals.now })) meta.now result out.old out.new }
     ensures limit { result.len ≤ datagram_limit }
     ensures size { (key.now.mode ≡ Twamp → ⊥) → result.len ≡ length input.now }
 {
     let config = KeyedConfig::of(config);
     let session = Session {
-        key,
-        extra,
+        mode: key.mode,
+        extra: *extra,
         config: &config,
     };
     let datagram = Datagram {

@@ -4,19 +4,19 @@ ghost use Rattle.std.specs.Prelude.{◌≡◌, IsSome};
 ghost use Rattle.refl_types.specs.declared.types.Mode.TheVariants.{Auth};
 
 use keyed_config::KeyedConfig;
-use refl_types::{Extra, Key, LocalAddr, Meta};
+use refl_types::{Extra, LocalAddr, Meta, Mode};
 
 /// A session, as whoever keeps it lends it.
 #[derive(Clone, Copy)]
 pub struct Session<'a> {
-    /// What tells its datagrams.
-    pub key: &'a Key,
+    /// In which its datagrams are.
+    pub mode: Mode,
     /// What it has agreed on besides.
-    pub extra: &'a Extra,
+    pub extra: Extra,
     /// Its configuration, with the HMAC key hashed.
     pub config: &'a KeyedConfig,
     /// In mode Auth it has an HMAC key.
-    pub ghost keyed: { key.now.mode ≡ Auth → IsSome config.now.key },
+    pub ghost keyed: { mode ≡ Auth → IsSome config.now.key },
 }
 
 /// A datagram as it arrived.

@@ -612,8 +612,8 @@ fn sent(alloc: Global, parts: ConfigParts, tail: &[u8]) -> Result<Result<SentRep
     );
     out.truncate(reply.len);
     Ok(Ok(SentReply {
-        from: reply.from,
-        to: reply.to,
+        from: reply.elsewhere.map_or(meta.local, |ends| ends.from),
+        to: reply.elsewhere.map_or(meta.peer, |ends| ends.to),
         tail: octets_from(alloc, &out, 44)?,
     }))
 }

@@ -17,4 +17,4 @@ sent_under n r = record { from = r.from; to = r.to; number = n; octets = r.octet
 
 -- the number is the count modulo 2^32
 unfoldable pub sending : List Endpoint → Entry → Datagram → Sending
-sending locals e d = sent_under (e.count % 2 ^ 32) (reflection e.key e.extra e.config (record { number = e.count % 2 ^ 32; sending = d.t3 }) (record { meta = meta_of d; octets = d.octets; locals = locals }))
+sending locals e d = sent_under (e.count % 2 ^ 32) (reflection e.key.mode e.extra e.config (record { number = e.count % 2 ^ 32; sending = d.t3 }) (record { meta = meta_of d; octets = d.octets; locals = locals }))

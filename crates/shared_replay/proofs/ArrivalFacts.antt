@@ -29,7 +29,8 @@ use Rattle.replay_table.specs.Outcomes.{answer, after, cause_of}
 use Rattle.replay_table.proofs.AnswerFacts.{no_session, not_reflected, reflected, with_sessions}
 use Rattle.shared_replay.specs.Tracks.{session_of_entry, entry_for, Tracks}
 use Rattle.shared_replay.specs.Following.{Follows, query_for}
-use Rattle.shared_replay.specs.Turn.{IsEntryOf, IsReflected, NeverComes, StaysSilent, HasDrawn}
+use Rattle.session_turn.specs.Turn.{Reflects}
+use Rattle.shared_replay.specs.Turn.{IsEntryOf, NeverComes, StaysSilent, HasDrawn}
 use Rattle.shared_replay.specs.Stands.{AreKeyed, HoldsTable, keys_of, IsArrived}
 use Rattle.shared_replay.proofs.EntryFacts.{entry_here, entry_there}
 use Rattle.shared_replay.proofs.KeyFacts.{keys_updated}
@@ -93,24 +94,24 @@ module _ (bound : OneBound) (t : Table) (d : Datagram) (b c : Book) (same : IsSa
       (λ came. turned.never_late (query_for d) came.0 came.1 came.2 came.3)
       (λ changed. let w = changed.0 in
       let x = drew_here h.follows turned bound (query_for d) w.key w.extra w.row w.number w.drawn_row w.answers in
-      changed.2 (subst (λ (f : ConfigParts). IsReflected w.key.mode f d.octets) (sym x.saw.config ∙ x.drawn_config) changed.1))
+      changed.2 (subst (λ (f : ConfigParts). Reflects w.key.mode f d.octets) (sym x.saw.config ∙ x.drawn_config) changed.1))
       others)
       n
 
   -- the entry that was drawn from, and what its datagram is answered
   pub record Replies (w : HasDrawn xs d) : Type 0 where
     pub entry : Entry
-    pub is : IsEntryOf entry w.key w.extra (config_at (steps_of b) w.drawn_row) w.number
+    pub is : IsEntryOf entry w.key.mode w.extra (config_at (steps_of b) w.drawn_row) w.number
     pub leaves : Leaves t d (Sent (sending t.locals entry d)) c
 
-  pub drawn_leaves : (w : HasDrawn xs d) → IsReflected w.key.mode (config_at (steps_of b) w.row) d.octets → Replies w
+  pub drawn_leaves : (w : HasDrawn xs d) → Reflects w.key.mode (config_at (steps_of b) w.row) d.octets → Replies w
   drawn_leaves w reflects =
       let f = config_at (steps_of b) w.row in
       let x = drew_here h.follows turned bound (query_for d) w.key w.extra w.row w.number w.drawn_row w.answers in
       let e = x.saw.entry in
       record {
         entry = e;
-        is = record { key = x.saw.key; extra = x.saw.extra; config = x.drawn_config; count = x.count };
+        is = record { mode = ap (λ (k : Key). k.mode) x.saw.key; extra = x.saw.extra; config = x.drawn_config; count = x.count };
         leaves = leaves_by (Sent (sending t.locals e d)) (with_sessions t (update e.key raised t.sessions))
             (reflected t d e x.saw.found (judged_same w.key w.extra f x.saw judged.Reflect reflects.0))
             (holds (update e.key raised t.sessions) x.tracks (keys_updated e.key raised (λ v. refl) t.sessions));

@@ -8,6 +8,6 @@ pub mod AnswerFacts
 pub mod DeskFacts
 pub mod RecordFacts
 pub mod ReplyFacts
-pub mod SeenFacts
+pub mod TookFacts
 pub mod WholeTurns
 pub mod Standing

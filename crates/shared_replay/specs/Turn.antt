@@ -1,21 +1,22 @@
 -- The turn of the worker that is split off for one datagram (this project's own; RFC 8762, section 4.3). A row is named by its
 -- number; which configuration it stands for is a parameter.
-use Rattle.std.specs.Prelude.{◌≡◌, ◌⊎◌, ℕ, ◌%◌, ◌^◌, ◌≤◌, List, [], ◌∷◌, ◌++◌, length, drop, Option, Some, None, Result, Ok, Err}
+use Rattle.std.specs.Prelude.{◌≡◌, ◌⊎◌, ℕ, ◌%◌, ◌^◌, ◌≤◌, List, [], ◌∷◌, ◌++◌, length, drop, Result, Ok, Err}
 use Rattle.refl_types.specs.declared.types.Endpoint.{Endpoint}
 use Rattle.refl_types.specs.declared.types.Mode.{Mode}
 use Rattle.refl_types.specs.declared.outcome.Silent.{Silent}
 use Rattle.refl_types.specs.declared.outcome.Silent.TheVariants as silents
+use Rattle.refl_types.specs.declared.outcome.Unanswered.{Unanswered}
+use Rattle.refl_types.specs.declared.outcome.Unanswered.TheVariants as unanswered
 use Rattle.refl_types.specs.HmacKey.{HasHmacKey}
 use Rattle.reflect_core.specs.Judgement.{judgement}
-use Rattle.reflect_core.specs.declared.judging.Judged.{Judged}
 use Rattle.reflect_core.specs.declared.judging.Judged.TheVariants as judged
 use Rattle.session_world.specs.declared.steps.TableSize.{TableSize}
 use Rattle.session_world.specs.declared.steps.Step.{Step}
 use Rattle.session_world.specs.Keys.{Key, Extra, ConfigParts}
 use Rattle.session_world.specs.Answers.{Answer, seen, drew, missed, late, worker_answers}
 use Rattle.session_world.specs.Rows.{ReadsRows}
-use Rattle.session_table.specs.declared.found.Sight.{Sight}
-use Rattle.session_table.specs.Knowing.{Places, KeptAs, SawKnown, StaysKnown}
+use Rattle.session_table.specs.Knowing.{Places, KeptAs}
+use Rattle.session_turn.specs.Turn.{Reflects}
 use Rattle.replay_format.specs.declared.code.UnsentCause.{UnsentCause}
 use Rattle.replay_format.specs.declared.code.UnsentCause.TheVariants.{NoSession, Short, BadHmac, NoReply}
 use Rattle.replay_format.specs.Records.{Datagram}
@@ -26,54 +27,32 @@ use Rattle.shared_replay.specs.Following.{query_for}
 
 -- ---- the answer to a datagram that is reflected
 
--- the entry has these, and its count is the number modulo 2^32
-pub record IsEntryOf (e : Entry) (k : Key) (x : Extra) (c : ConfigParts) (number : ℕ) : Type 0 where
-  pub key : e.key ≡ k
+-- the entry is of this mode and has these, and its count is the number modulo 2^32
+pub record IsEntryOf (e : Entry) (m : Mode) (x : Extra) (c : ConfigParts) (number : ℕ) : Type 0 where
+  pub mode : e.key.mode ≡ m
   pub extra : e.extra ≡ x
   pub config : e.config ≡ c
   pub count : e.count % 2 ^ 32 ≡ number
 
--- the answer under this key, extra, configuration and number was written at the front, n octets, where these are the
+-- the answer in this mode, under this extra, configuration and number was written at the front, n octets, where these are the
 -- reflector's own addresses
-pub record IsSent (locals : List Endpoint) (k : Key) (x : Extra) (c : ConfigParts) (number : ℕ) (d : Datagram) (before written : List ℕ) (n : ℕ) : Type 0 where
-  pub octets : (e : Entry) → IsEntryOf e k x c number → written ≡ answer_octets (Sent (sending locals e d)) ++ drop n before
-  pub len : (e : Entry) → IsEntryOf e k x c number → n ≡ length (answer_octets (Sent (sending locals e d)))
+pub record IsSent (locals : List Endpoint) (m : Mode) (x : Extra) (c : ConfigParts) (number : ℕ) (d : Datagram) (before written : List ℕ) (n : ℕ) : Type 0 where
+  pub octets : (e : Entry) → IsEntryOf e m x c number → written ≡ answer_octets (Sent (sending locals e d)) ++ drop n before
+  pub len : (e : Entry) → IsEntryOf e m x c number → n ≡ length (answer_octets (Sent (sending locals e d)))
   pub fits : n ≤ answer_limit
 
 -- ---- judgements
 
--- the datagram is reflected, and the configuration serves a session of the mode
-abbrev pub IsReflected : Mode → ConfigParts → List ℕ → Type 0
-IsReflected m c octets = (judgement m c octets ≡ judged.Reflect) × HasHmacKey m c
-
--- what an answer tells of a judgement
-abbrev pub IsTold : Judged → Result (Unit {0}) UnsentCause → Type 0
-IsTold j (Ok u) = j ≡ judged.Reflect
-IsTold j (Err NoSession) = ⊥
-IsTold j (Err Short) = j ≡ judged.Silent silents.Short
-IsTold j (Err BadHmac) = j ≡ judged.Silent silents.BadHmac
-IsTold j (Err NoReply) = j ≡ judged.Silent silents.NoReply
-
--- whether it is, and why not
-abbrev pub IsJudged : Mode → ConfigParts → List ℕ → Result (Unit {0}) UnsentCause → Type 0
-IsJudged m c octets (Ok u) = IsReflected m c octets
-IsJudged m c octets (Err NoSession) = ¬ HasHmacKey m c
-IsJudged m c octets (Err Short) = judgement m c octets ≡ judged.Silent silents.Short
-IsJudged m c octets (Err BadHmac) = judgement m c octets ≡ judged.Silent silents.BadHmac
-IsJudged m c octets (Err NoReply) = judgement m c octets ≡ judged.Silent silents.NoReply
-
--- whether it was answered under a key, extra, configuration and number, as it is reflected under them; else nothing was written
-abbrev pub MaybeSent : List Endpoint → Key → Extra → ConfigParts → ℕ → Datagram → List ℕ → List ℕ → Option ℕ → Type 0
-MaybeSent locals k x c number d before written (Some n) = IsReflected k.mode c d.octets × IsSent locals k x c number d before written n
-MaybeSent locals k x c number d before written None = (¬ IsReflected k.mode c d.octets) × (written ≡ before)
+-- what an answer tells of a cause
+abbrev pub told : Unanswered → UnsentCause
+told unanswered.NoSession = NoSession
+told unanswered.Short = Short
+told unanswered.BadHmac = BadHmac
+told unanswered.NoReply = NoReply
+told (unanswered.Changed m n) = NoSession
+told unanswered.SendFault = NoSession
 
 -- ---- the turn
-
--- A worker that had made no step has made these, and holds this session of the datagram. The rows that it kept as `old` it
--- keeps as `known`
-pub record HasFound (z : TableSize) (old known : Places) (xs : List Step) (d : Datagram) (s : Sight) : Type 0 where
-  pub sees : SawKnown z old known [] xs (query_for d) s
-  pub stays : StaysKnown old known [] xs
 
 -- a session was seen, and nothing more was asked
 pub record HasSeen (xs : List (Answer ℕ)) (d : Datagram) : Type 0 where
@@ -99,8 +78,8 @@ pub record StaysSilent (config : ℕ → ConfigParts) (xs : List (Answer ℕ)) (
 -- the datagram is reflected under the number
 pub record HasReplied (config : ℕ → ConfigParts) (xs : List (Answer ℕ)) (locals : List Endpoint) (d : Datagram) (before written : List ℕ) (n : ℕ) : Type 0 where
   pub drawn : HasDrawn xs d
-  pub reflects : IsReflected drawn.key.mode (config drawn.row) d.octets
-  pub sent : IsSent locals drawn.key drawn.extra (config drawn.drawn_row) drawn.number d before written n
+  pub reflects : Reflects drawn.key.mode (config drawn.row) d.octets
+  pub sent : IsSent locals drawn.key.mode drawn.extra (config drawn.drawn_row) drawn.number d before written n
 
 -- What doesn't come where one thread does all: a session of mode Auth without an HMAC key, a draw that comes too late, and a row
 -- that was exchanged since the look
@@ -108,7 +87,7 @@ abbrev pub NeverComes : (ℕ → ConfigParts) → List (Answer ℕ) → Datagram
 NeverComes config xs d =
     ((saw : HasSeen xs d) × ¬ HasHmacKey saw.key.mode (config saw.row))
     ⊎ ((k : Key) × (x : Extra) × (r : ℕ) × (xs ≡ late (query_for d) ∷ seen (query_for d) k x r ∷ []))
-    ⊎ ((drawn : HasDrawn xs d) × IsReflected drawn.key.mode (config drawn.row) d.octets × ¬ IsReflected drawn.key.mode (config drawn.drawn_row) d.octets)
+    ⊎ ((drawn : HasDrawn xs d) × Reflects drawn.key.mode (config drawn.row) d.octets × ¬ Reflects drawn.key.mode (config drawn.drawn_row) d.octets)
 
 -- what was found and answered, where the answer is so many octets, or nothing was written for a cause
 abbrev pub IsTurn : (ℕ → ConfigParts) → List (Answer ℕ) → List Endpoint → Datagram → List ℕ → List ℕ → Result ℕ UnsentCause → Type 0

@@ -3,7 +3,6 @@
 #![tactic(auto)]
 
 mod changing;
-mod judging;
 mod opening;
 mod reply;
 mod sessions;

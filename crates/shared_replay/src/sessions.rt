@@ -104,6 +104,19 @@ impl Sessions {
         )
     }
 
+    /// The same out of line.
+    #[cold]
+    #[inline(never)]
+    fn arrive_apart(&mut self, meta: &Meta, t3: u64, octets: &[u8], out: &mut [u8]) -> usize
+        requires room { ANSWER_ROOM ≤ length out.old }
+        requires measured { meta.now.len ≡ length octets.now }
+        requires limit { length octets.now ≤ datagram_limit }
+        ensures answered { (records : List Item) → Stands self.old records → AreWithin records → IsAnswered records self.new (Arrives (datagram_of meta.now t3 octets.now)) out.old out.new result }
+        ensures fits { result ≤ answer_limit }
+    {
+        self.arrive(meta, t3, octets, out)
+    }
+
     /// Writes the answer to a record at the front, says how many octets it has, and keeps the table that the record
     /// leaves. Later octets stay.
     pub fn answer(&mut self, item: &Record, out: &mut [u8]) -> usize
@@ -127,7 +140,7 @@ impl Sessions {
                 let count = close(&self.table, &mut self.book, key);
                 write_outcome(&Outcome::Closed(count), out)
             }
-            Record::Datagram { meta, t3, octets } => self.arrive(meta, *t3, octets, out),
+            Record::Datagram { meta, t3, octets } => self.arrive_apart(meta, *t3, octets, out),
             Record::Locals { count, list } => {
                 self.locals = *list;
                 self.local_count = *count;

@@ -1,135 +1,40 @@
 //! The turn of the worker that is split off for one datagram.
 
-ghost use Rattle.std.specs.Prelude.{◌≡◌, ◌≤◌, ℕ, [], ◌++◌, List, drop, length};
-ghost use Rattle.refl_types.specs.declared.types.Endpoint.{Endpoint};
-ghost use Rattle.refl_types.specs.declared.config.ConfigParts.{ConfigParts};
+ghost use Rattle.std.specs.Prelude.{◌≡◌, ◌≤◌, [], ◌++◌, drop, length};
 ghost use Rattle.refl_types.specs.Limits.{datagram_limit};
-ghost use Rattle.reflect_core.specs.Judgement.{IsUsualPlain};
 ghost use Rattle.session_rule.specs.Seats.{size_of, IsWorkerOf, worker_number, worker_steps};
-ghost use Rattle.session_table.specs.Knowing.{Places, Keeps};
 ghost use Rattle.session_desk.specs.Book.{steps_of};
 ghost use Rattle.session_desk.specs.Fits.{reserves_in};
-ghost use Rattle.replay_format.specs.Records.{Arrives, datagram_of};
+ghost use Rattle.replay_format.specs.Records.{datagram_of};
 ghost use Rattle.replay_format.specs.Answers.{Unsent, answer_limit, answer_octets};
 ghost use Rattle.replay_table.specs.Table as replay;
-ghost use Rattle.shared_replay.specs.Turn.{HasFound, Turned};
+ghost use Rattle.shared_replay.specs.Turn.{Turned, told};
 ghost use Rattle.shared_replay.specs.Stands.{IsDesk, AreKept, HasArrived};
 
-use crate::judging::{judge, judge_usual};
-use crate::reply::{write_changed, write_drawn, write_usual};
+use crate::reply::write_sent;
 use crate::sessions::ANSWER_ROOM;
-use refl_types::{LocalAddr, Meta};
-use reflect_core::is_usual_plain;
+use refl_types::{LocalAddr, Meta, Unanswered};
+use reflect_core::Session;
 use replay_format::{Outcome, UnsentCause, write_outcome};
 use session_desk::DeskBook;
 use session_rule::{Table, WorkerSeat};
-use session_table::{DrawnRow, KnownRows, Seen, Sight, draw_by, find_by, law_reads, retire};
+use session_table::KnownRows;
+use session_turn::take_turn;
 use session_world::{law_one_bound, law_turns_tell, law_words};
 
-/// Answers a datagram of the session that was found, where `is_usual_plain` is true of it.
+/// The cause that an answer tells. What comes only where others serve beside is told as if there were no session.
 #[inline(always)]
-fn turn_usual(
-    table: &Table,
-    worker: &mut WorkerSeat,
-    known: &mut KnownRows,
-    sight: &Sight,
-    meta: &Meta,
-    t3: u64,
-    octets: &[u8],
-    locals: &[LocalAddr],
-    out: &mut [u8],
-) -> Result<usize, UnsentCause>
-    requires same { IsWorkerOf table.now worker.old }
-    requires found { (old : Places) × HasFound (size_of table.now) old known.old (worker_steps worker.old) (datagram_of meta.now t3 octets.now) sight.now }
-    requires usual { (c : ConfigParts) → Keeps known.old sight.now.row c → IsUsualPlain sight.now.key.mode c }
-    requires measured { meta.now.len ≡ length octets.now }
-    requires limit { length octets.now ≤ datagram_limit }
-    requires locals { length locals.now ≤ 16 }
-    requires room { ANSWER_ROOM ≤ length out.old }
-    ensures same { IsWorkerOf table.now worker.new }
-    ensures number { worker_number worker.new ≡ worker_number worker.old }
-    ensures turned { (old : Places) → HasFound (size_of table.now) old known.old (worker_steps worker.old) (datagram_of meta.now t3 octets.now) sight.now → Turned (size_of table.now) old known.new (worker_steps worker.new) locals.now (datagram_of meta.now t3 octets.now) out.old out.new result }
+fn told(why: Unanswered) -> UnsentCause
+    ensures { result ≡ told why }
 {
-    law_reads();
-    if let Err(cause) = judge_usual(sight, known.config(sight.row), octets) {
-        retire(table, worker);
-        return Err(cause);
+    match why {
+        Unanswered::Short => UnsentCause::Short,
+        Unanswered::BadHmac => UnsentCause::BadHmac,
+        Unanswered::NoReply => UnsentCause::NoReply,
+        Unanswered::NoSession | Unanswered::Changed { .. } | Unanswered::SendFault => {
+            UnsentCause::NoSession
+        }
     }
-    let drawn = draw_by(table, worker, known, sight);
-    retire(table, worker);
-    let DrawnRow::Number { n, row } = drawn else {
-        return Err(UnsentCause::NoSession);
-    };
-    let config = known.config(row);
-    if row == sight.row {
-        return Ok(write_usual(sight, config, n, meta, t3, octets, out));
-    }
-    write_changed(config, n, meta, t3, octets, locals, out).ok_or(UnsentCause::NoSession)
-}
-
-/// Answers a datagram of the session that was found, out of line.
-#[inline(never)]
-fn turn_apart(
-    table: &Table,
-    worker: &mut WorkerSeat,
-    known: &mut KnownRows,
-    sight: Sight,
-    meta: Meta,
-    t3: u64,
-    octets: &[u8],
-    locals: &[LocalAddr],
-    out: &mut [u8],
-) -> Result<usize, UnsentCause>
-    requires same { IsWorkerOf table.now worker.old }
-    requires found { (old : Places) × HasFound (size_of table.now) old known.old (worker_steps worker.old) (datagram_of meta t3 octets.now) sight }
-    requires measured { meta.len ≡ length octets.now }
-    requires limit { length octets.now ≤ datagram_limit }
-    requires locals { length locals.now ≤ 16 }
-    requires room { ANSWER_ROOM ≤ length out.old }
-    ensures same { IsWorkerOf table.now worker.new }
-    ensures number { worker_number worker.new ≡ worker_number worker.old }
-    ensures turned { (old : Places) → HasFound (size_of table.now) old known.old (worker_steps worker.old) (datagram_of meta t3 octets.now) sight → Turned (size_of table.now) old known.new (worker_steps worker.new) locals.now (datagram_of meta t3 octets.now) out.old out.new result }
-{
-    law_reads();
-    if let Err(cause) = judge(&sight, known.config(sight.row), octets) {
-        retire(table, worker);
-        return Err(cause);
-    }
-    let drawn = draw_by(table, worker, known, &sight);
-    retire(table, worker);
-    let DrawnRow::Number { n, row } = drawn else {
-        return Err(UnsentCause::NoSession);
-    };
-    let config = known.config(row);
-    write_drawn(&sight, row, config, n, &meta, t3, octets, locals, out).ok_or(
-        UnsentCause::NoSession,
-    )
-}
-
-/// The same by `turn_apart`. What is lent is copied for it here, and so stays in registers where it isn't called.
-#[inline(always)]
-fn turn_other(
-    table: &Table,
-    worker: &mut WorkerSeat,
-    known: &mut KnownRows,
-    sight: &Sight,
-    meta: &Meta,
-    t3: u64,
-    octets: &[u8],
-    locals: &[LocalAddr],
-    out: &mut [u8],
-) -> Result<usize, UnsentCause>
-    requires same { IsWorkerOf table.now worker.old }
-    requires found { (old : Places) × HasFound (size_of table.now) old known.old (worker_steps worker.old) (datagram_of meta.now t3 octets.now) sight.now }
-    requires measured { meta.now.len ≡ length octets.now }
-    requires limit { length octets.now ≤ datagram_limit }
-    requires locals { length locals.now ≤ 16 }
-    requires room { ANSWER_ROOM ≤ length out.old }
-    ensures same { IsWorkerOf table.now worker.new }
-    ensures number { worker_number worker.new ≡ worker_number worker.old }
-    ensures turned { (old : Places) → HasFound (size_of table.now) old known.old (worker_steps worker.old) (datagram_of meta.now t3 octets.now) sight.now → Turned (size_of table.now) old known.new (worker_steps worker.new) locals.now (datagram_of meta.now t3 octets.now) out.old out.new result }
-{
-    turn_apart(table, worker, known, *sight, *meta, t3, octets, locals, out)
 }
 
 /// Finds the session of a datagram, and where it is reflected draws a number and writes the answer, whose length it says.
@@ -155,13 +60,16 @@ fn turn(
     ensures number { worker_number worker.new ≡ worker_number worker.old }
     ensures turned { Turned (size_of table.now) known.old known.new (worker_steps worker.new) locals.now (datagram_of meta.now t3 octets.now) out.old out.new result }
 {
-    let Seen::Held(sight) = find_by(table, worker, known, meta, octets) else {
-        return Err(UnsentCause::NoSession);
+    let drawn = match take_turn(table, worker, known, meta, octets) {
+        Ok(drawn) => drawn,
+        Err(why) => return Err(told(why)),
     };
-    if is_usual_plain(sight.key.mode, known.config(sight.row)) {
-        return turn_usual(table, worker, known, &sight, meta, t3, octets, locals, out);
-    }
-    turn_other(table, worker, known, &sight, meta, t3, octets, locals, out)
+    let session = Session {
+        mode: drawn.mode,
+        extra: drawn.extra,
+        config: known.config(drawn.row),
+    };
+    Ok(write_sent(&session, drawn.number, meta, t3, octets, locals, out))
 }
 
 /// Writes why a datagram is not reflected.
