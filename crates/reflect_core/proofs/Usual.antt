@@ -1,5 +1,5 @@
 -- Where neither type of RFC 9503 is understood, a reply is as under no plan, between the usual ends.
-use Rattle.std.proofs.Common.{◌≡◌, ℕ, ◌+◌, ◌≤◌, ◌∙◌, Bool, true, false, if◌then◌else◌, ◌||◌, ◌&&◌, Option, None, List, [], ◌∷◌, ◌++◌, length, drop, refl, sym, ap}
+use Rattle.std.proofs.Common.{◌≡◌, inl, inr, ℕ, ◌+◌, ◌≤◌, ◌∙◌, Bool, true, false, if◌then◌else◌, ◌||◌, ◌&&◌, Option, None, List, [], ◌∷◌, ◌++◌, length, drop, refl, sym, ap}
 use Rattle.std.specs.Int.{w32, to_be_bytes}
 use Rattle.octet_format.specs.Octets.{field}
 use Rattle.refl_types.specs.declared.types.Mode.{Mode}
@@ -25,13 +25,13 @@ use Rattle.reflect_core.specs.declared.ends.Ends.{Ends}
 use Rattle.reflect_core.specs.declared.session.Draw.{Draw}
 use Rattle.reflect_core.specs.declared.judging.Judged.{Judged}
 use Rattle.reflect_core.specs.declared.judging.Judged.TheVariants.{Reflect, Silent}
-use Rattle.reflect_core.specs.Judgement.{judged_length, judged_base, judged_tail, judged_behind, and_then, judgement}
+use Rattle.reflect_core.specs.Judgement.{IsUsual, judged_length, judged_base, judged_tail, judged_behind, and_then, judgement}
 use Rattle.reflect_core.specs.Arrived.{Arrived}
 use Rattle.reflect_core.specs.Base.{reply_base}
-use Rattle.reflect_core.specs.Ends.{has_intact_tail, usual_ends, planned_ends, plan_after, ends_after}
+use Rattle.reflect_core.specs.Ends.{has_intact_tail, may_redirect, usual_ends, planned_ends, plan_after, ends_after}
 use Rattle.reflect_core.specs.Tail.{processed, reply_by, tail_reply}
-use Rattle.reflect_core.specs.Reflection.{plain_reflection, reflection, IsReply, WritesPlain}
-use Rattle.reflect_core.proofs.Modes.{plain_is, plain_ends, replied}
+use Rattle.reflect_core.specs.Reflection.{plain_reflection, test_reflection, reflection, IsReply, WritesPlain, WritesTest}
+use Rattle.reflect_core.proofs.Modes.{plain_is, test_is, plain_ends, test_ends, replied}
 
 -- ---- the TLVs of a reply don't tell its ends
 
@@ -125,7 +125,19 @@ plain_base mode c octets e = rw e refl
 pub judged_usual_plain : (mode : Mode) (c : ConfigParts) (octets : List ℕ) → mode ≡ Plain → NeitherUnderstood c → judged_length 44 octets ≡ judgement mode c octets
 judged_usual_plain mode c octets e neither = plain_base mode c octets e ∙ judged_usual mode c octets neither
 
--- ---- the reply in mode Plain
+-- ---- the reply
+
+-- a usual session of another mode than Twamp is of mode Plain, and no tail redirects its replies
+pub usual_plain : (mode : Mode) (c : ConfigParts) → IsUsual mode c → (mode ≡ Twamp → ⊥) → (mode ≡ Plain) × (may_redirect c ≡ false)
+usual_plain mode c (inl test) other = absurd (other test)
+usual_plain mode c (inr plain) other = plain
+
+pub replied_test : (mode : Mode) (x : Extra) (c : ConfigParts) (draw : Draw) (d : Arrived) (len : ℕ) (old new : List ℕ) → mode ≡ Twamp → len ≤ length old → length new ≡ length old → WritesTest x c draw d len old new
+    → IsReply (reflection mode x c draw d) d.meta (record { elsewhere = None; len = len }) old new
+replied_test mode x c draw d len old new test room kept writes =
+    let ends = test_ends mode c d test in
+    replied (reflection mode x c draw d) d.meta (record { elsewhere = None; len = len }) (usual_ends d.meta) old new (test_reflection x c draw d) len refl refl
+    (ap (λ (e : Ends). e.from) ends) (ap (λ (e : Ends). e.to) ends) writes (test_is mode x c draw d test) kept room
 
 pub replied_usual : (mode : Mode) (x : Extra) (c : ConfigParts) (draw : Draw) (d : Arrived) (p : Plan) (old new : List ℕ) → mode ≡ Plain → NeitherUnderstood c → HasNoPlaces p
     → length d.octets ≤ length old → length new ≡ length old → WritesPlain c p draw d old new

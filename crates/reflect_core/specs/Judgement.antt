@@ -1,5 +1,5 @@
 -- Whether a datagram of a session is reflected (RFC 8762, section 4.3; RFC 9503, section 4.1.1; RFC 5357, section 4.2).
-use Rattle.std.specs.Prelude.{◌≡◌, ℕ, ◌&&◌, false, List, length, drop, nat_lt, if◌then◌else◌}
+use Rattle.std.specs.Prelude.{◌≡◌, ◌⊎◌, ℕ, ◌&&◌, false, List, length, drop, nat_lt, if◌then◌else◌}
 use Rattle.refl_types.specs.declared.types.Mode.{Mode}
 use Rattle.refl_types.specs.declared.types.Mode.TheVariants.{Plain, Auth, Twamp}
 use Rattle.refl_types.specs.declared.config.ConfigParts.{ConfigParts}
@@ -44,6 +44,7 @@ and_then Reflect tail = tail
 abbrev pub judgement : Mode → ConfigParts → List ℕ → Judged
 judgement mode c octets = and_then (judged_base mode c octets) (judged_behind mode c octets)
 
--- a session of mode Plain under a configuration with which no tail may say from where and to whom its reply is sent
+-- a session whose tails can't say from where and to whom a reply is sent, and whose base packets have no HMAC: one of mode
+-- Twamp, or one of mode Plain by its configuration
 abbrev pub IsUsual : Mode → ConfigParts → Type 0
-IsUsual mode c = (mode ≡ Plain) × (may_redirect c ≡ false)
+IsUsual mode c = (mode ≡ Twamp) ⊎ ((mode ≡ Plain) × (may_redirect c ≡ false))

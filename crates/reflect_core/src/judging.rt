@@ -108,7 +108,10 @@ impl Session<'_> {
         requires { IsUsual self.now.mode self.now.config.now }
         ensures { result ≡ judgement self.now.mode self.now.config.now octets.now }
     {
-        judge_length(octets, PLAIN_LEN)
+        match self.mode {
+            Mode::Twamp => judge_length(octets, TEST_LEN),
+            _ => judge_length(octets, PLAIN_LEN),
+        }
     }
 
     /// Whether a datagram of the session is reflected: not where it is shorter than the base packet of the session's

@@ -119,6 +119,7 @@ fn reflect_auth(
 }
 
 /// Writes the reply of a TWAMP-Test session, and says how many octets it has.
+#[inline(always)]
 fn reflect_test(
     extra: &Extra,
     config: &KeyedConfig,
@@ -137,8 +138,8 @@ fn reflect_test(
     write_test_to(extra, &base, datagram.octets, out)
 }
 
-/// Writes the reply as `Session::reflect` does. It stands out of line and takes copies of what it needs, so that what the usual
-/// datagrams need can stay in registers.
+/// Writes the reply as `Session::reflect` does, in the other modes than Twamp. It stands out of line and takes copies of what it
+/// needs, so that what the usual datagrams need can stay in registers.
 #[cold]
 #[inline(never)]
 fn reflect_apart(
@@ -151,6 +152,7 @@ fn reflect_apart(
     draw: Draw,
     out: &mut [u8],
 ) -> Reply
+    requires other { mode ≡ Twamp → ⊥ }
     requires keyed { mode ≡ Auth → IsSome config.now.key }
     requires judged { judgement mode config.now octets.now ≡ Reflect }
     requires limit { length octets.now ≤ datagram_limit }
@@ -174,13 +176,7 @@ fn reflect_apart(
                 len: octets.len(),
             }
         }
-        Mode::Twamp => {
-            let len = reflect_test(&extra, config, &draw, &datagram, out);
-            Reply {
-                elsewhere: None,
-                len,
-            }
-        }
+        Mode::Twamp => unreachable!(),
         Mode::Auth => {
             let plan = plan_after(AUTH_LEN, config, &datagram);
             let intact = reflect_auth(config, &plan, &draw, &datagram, out);
@@ -201,33 +197,46 @@ impl Session<'_> {
         may_redirect(self.config.config())
     }
 
-    /// Whether it is of mode Plain, and no tail may say from where and to whom its reply is sent.
+    /// Whether it is of mode Twamp, or of mode Plain where no tail may say from where and to whom its reply is sent.
     #[inline(always)]
     pub fn is_usual(&self) -> bool
         ensures yes { result ≡ true → IsUsual self.now.mode self.now.config.now }
         ensures no { result ≡ false → ¬ IsUsual self.now.mode self.now.config.now }
     {
         match self.mode {
+            Mode::Twamp => true,
             Mode::Plain => !self.may_redirect(),
-            Mode::Twamp | Mode::Auth => false,
+            Mode::Auth => false,
         }
     }
 
-    /// Writes the reply as `reflect` does, where `is_usual` is true: it goes from where the datagram arrived to its sender, and has
-    /// as many octets.
+    /// Writes the reply as `reflect` does, where `is_usual` is true: it goes from where the datagram arrived to its sender.
     #[inline(always)]
     pub fn reflect_usual(&self, datagram: &Datagram, draw: &Draw, out: &mut [u8]) -> Reply
         requires usual { IsUsual self.now.mode self.now.config.now }
         requires judged { judgement self.now.mode self.now.config.now datagram.now.octets.now ≡ Reflect }
-        requires room { length datagram.now.octets.now ≤ length out.old }
+        requires limit { length datagram.now.octets.now ≤ datagram_limit }
+        requires room { 65536 ≤ length out.old }
         ensures reply { IsReply (reflection self.now.mode self.now.extra self.now.config.now draw.now (arrived datagram.now)) datagram.now.meta.now result out.old out.new }
-        ensures len { result.len ≡ length datagram.now.octets.now }
+        ensures limit { result.len ≤ datagram_limit }
+        ensures size { (self.now.mode ≡ Twamp → ⊥) → result.len ≡ length datagram.now.octets.now }
         ensures back { result.elsewhere ≡ None }
     {
-        let _intact = reflect_plain(self.config, &NO_PLACES, draw, datagram, out);
-        Reply {
-            elsewhere: None,
-            len: datagram.octets.len(),
+        match self.mode {
+            Mode::Twamp => {
+                let len = reflect_test(&self.extra, self.config, draw, datagram, out);
+                Reply {
+                    elsewhere: None,
+                    len,
+                }
+            }
+            _ => {
+                let _intact = reflect_plain(self.config, &NO_PLACES, draw, datagram, out);
+                Reply {
+                    elsewhere: None,
+                    len: datagram.octets.len(),
+                }
+            }
         }
     }
 

@@ -1,11 +1,11 @@
-use Rattle.std.proofs.Common.{◌≡◌, ◌++◌, ◌∙◌, Bool, if◌then◌else◌, length, drop, ap, refl, None, arith}
+use Rattle.std.proofs.Common.{◌≡◌, ◌++◌, ◌∙◌, Bool, if◌then◌else◌, length, drop, ap, refl, arith}
 use Rattle.refl_types.specs.declared.types.Mode.TheVariants.{Plain, Auth}
 use Rattle.tlv_actions.specs.declared.facts.Plan.{Plan}
 use Rattle.reflect_core.specs.declared.ends.Ends.{Ends}
 use Rattle.reflect_core.specs.Arrived.{Arrived}
 use Rattle.reflect_core.specs.Ends.{has_intact_tail, usual_ends, planned_ends, plan_after, ends_after}
-use Rattle.reflect_core.specs.Reflection.{plain_reflection, auth_reflection, test_reflection, reflection}
-use Rattle.reflect_core.proofs.Modes.{plain_is, auth_is, test_is, plain_ends, auth_ends, test_ends, replied}
+use Rattle.reflect_core.specs.Reflection.{plain_reflection, auth_reflection, reflection}
+use Rattle.reflect_core.proofs.Modes.{plain_is, auth_is, plain_ends, auth_ends, replied}
 use Rattle.reflect_core.proofs.reflecting.reflect_apart.Goals as goal
 
 pub returns-in-Plain-clause-reply : goal.returns-in-Plain-clause-reply
@@ -47,18 +47,3 @@ returns-in-Auth-clause-reply c =
     (ap (λ (e : Ends). e.from) ends) (ap (λ (e : Ends). e.to) ends)
     (call.ensures.octets ∙ ap (λ (p : Plan). auth_reflection config p draw d ++ drop (length d.octets) old) plan.ensures)
     (auth_is mode x config draw d c.in-Auth.is) (omega arith) (omega arith)
-
-pub returns-in-Twamp-clause-reply : goal.returns-in-Twamp-clause-reply
-returns-in-Twamp-clause-reply c =
-    let mode = c.args.mode in
-    let x = c.args.extra in
-    let config = c.args.config.now in
-    let draw = c.args.draw in
-    let d : Arrived = record { meta = c.args.meta; octets = c.args.octets.now; locals = c.args.locals.now } in
-    let old = c.args.out.now in
-    let call = c.reflect_test-len in
-    let ends = test_ends mode config d c.in-Twamp.is in
-    replied (reflection mode x config draw d) d.meta (record { elsewhere = None; len = call.result }) (usual_ends d.meta) old call.new.out (test_reflection x config draw d) call.result refl refl
-    (ap (λ (e : Ends). e.from) ends) (ap (λ (e : Ends). e.to) ends)
-    call.ensures.octets
-    (test_is mode x config draw d c.in-Twamp.is) (omega arith) (omega arith)

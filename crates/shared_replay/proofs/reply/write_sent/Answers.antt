@@ -10,4 +10,4 @@ returns c =
     let m = c.args.meta.now in
     let reply = c.reflect_usual-reply in
     framed_sent c.args.locals.now s.mode s.extra s.config.now c.args.number m c.args.t3 c.args.octets.now reply.result (record { from = m.local; to = m.peer }) c.args.out.now reply.new.out c.frame_reply.new.out
-    (ap (λ (e : Option Ends). ends_told e m) (sym reply.ensures.back)) c.requires.measured (omega (arith, c.requires.room, c.requires.limit, reply.ensures.len)) (omega (arith, c.requires.limit, reply.ensures.len)) reply.ensures.reply c.frame_reply.ensures.octets c.frame_reply.ensures.len
+    (ap (λ (e : Option Ends). ends_told e m) (sym reply.ensures.back)) c.requires.measured (omega (arith, c.requires.room, reply.ensures.limit)) reply.ensures.limit reply.ensures.reply c.frame_reply.ensures.octets c.frame_reply.ensures.len
