@@ -1,6 +1,6 @@
 //! The room of a desk, and its run.
 
-ghost use Rattle.std.specs.Prelude.{◌≡◌, IsTrue, IfOk};
+ghost use Rattle.std.specs.Prelude.{◌≡◌, ◌<◌, ◌^◌, All, IsTrue, IfOk};
 ghost use Rattle.session_desk.specs.Book.{IsBookOf};
 ghost use Rattle.session_desk.specs.Going.{DeskWent};
 ghost use Rattle.control_desk.specs.Faults.{AreFaultsTold};
@@ -61,6 +61,13 @@ impl DeskRoom {
             setting: Setting::new(locals, *conf.twamp()),
             places,
         })
+    }
+
+    /// The ports of its locals have 16 bits, which its value doesn't tell.
+    pub fn law_ports(&self)
+        ensures { All (λ l. l.port < 2 ^ 16) self.now.setting.locals }
+    {
+        self.setting.law_ports();
     }
 }
 

@@ -1,5 +1,7 @@
 //! What the file says to the desk.
 
+ghost use Rattle.std.specs.Prelude.{◌<◌, ◌^◌, All};
+
 use refl_types::{Config, LocalAddr};
 use std::marker::Model;
 
@@ -19,6 +21,20 @@ impl Model for Setting {
     ghost view = { λ s. record { locals = s.locals.items; twamp = s.twamp } };
 
     ghost invariant = { λ s. vec_len s.locals ≤ 16 };
+}
+
+/// What the type of a local address says of its port.
+fn law_port(local: LocalAddr)
+    ensures { local.port < 2 ^ 16 }
+{}
+
+/// The same of all of these, which it reads.
+fn law_all_ports(locals: &[LocalAddr])
+    ensures { All (λ l. l.port < 2 ^ 16) locals.now }
+{
+    for local in locals {
+        law_port(*local);
+    }
 }
 
 impl Setting {
@@ -43,5 +59,12 @@ impl Setting {
         ensures { result.now ≡ self.now.twamp }
     {
         &self.twamp
+    }
+
+    /// The ports of the locals have 16 bits, which their value doesn't tell.
+    pub fn law_ports(&self)
+        ensures { All (λ l. l.port < 2 ^ 16) self.now.locals }
+    {
+        law_all_ports(&self.locals);
     }
 }
