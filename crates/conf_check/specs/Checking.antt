@@ -1,7 +1,7 @@
 -- What a check of a configuration file writes, by the status with which it ends (this project's own).
 use Rattle.std.specs.Prelude.{◌≡◌, ◌⊎◌, ℕ, List, length, Option, Result, Ok, Err, if◌then◌else◌, nat_lt}
 use Rattle.std.specs.Io.KnownBytes.{Appends}
-use Rattle.port_io.specs.Outside.{Rises, AppendsFront}
+use Rattle.port_io.specs.Outside.{Rises, AppendsPart}
 use Rattle.port_io.specs.SinkShown.{SinkShown}
 use Rattle.port_io.specs.Files as port
 use Rattle.conf_text.specs.Faults.{Fault}
@@ -14,9 +14,9 @@ use Rattle.conf_check.specs.Writing.{WritesLine}
 abbrev pub WasAccepted : Option (List port.File) → List ℕ → SinkShown → SinkShown → Type 0
 WasAccepted files name old new = (f : File) × IsAccepted files name f × Appends old.written new.written (accepted_line f)
 
--- 8: the file is accepted, and a front of its line was written
+-- 8: the file is accepted, and a front of its line was written, and not all
 abbrev pub WasCutShort : Option (List port.File) → List ℕ → SinkShown → SinkShown → Type 0
-WasCutShort files name old new = (f : File) × IsAccepted files name f × AppendsFront old.written new.written (accepted_line f)
+WasCutShort files name old new = (f : File) × IsAccepted files name f × AppendsPart old.written new.written (accepted_line f)
 
 -- 3: the file has a fault, and the first is told
 abbrev pub WasFaulty : Option (List port.File) → List ℕ → SinkShown → SinkShown → Type 0

@@ -1,16 +1,16 @@
 -- What is told to whoever started the program (this project's own).
 use Rattle.std.specs.Prelude.{◌≡◌, ◌⊎◌, ℕ, List, IsSomeAnd}
 use Rattle.std.specs.Io.KnownBytes.{Appends, Keeps}
-use Rattle.port_io.specs.Outside.{Rises, AppendsFront}
+use Rattle.port_io.specs.Outside.{Rises, AppendsPart}
 use Rattle.port_io.specs.SinkShown.{SinkShown}
 use Rattle.conf_text.specs.Faults.{fault_of}
 use Rattle.conf_check.specs.declared.loading.Refusal.{Refusal}
 use Rattle.conf_check.specs.declared.loading.Refusal.TheVariants.{Failed, TooLong, Faulty}
 use Rattle.conf_check.specs.Lines.{fault_line, failed_line, too_long_line}
 
--- the line was written and no write failed, or a front of it where a write failed
+-- the line was written and no write failed, or a front of it, and not all, where a write failed
 abbrev pub WritesLine : List ℕ → SinkShown → SinkShown → Type 0
-WritesLine line old new = (Appends old.written new.written line × (new.faults ≡ old.faults)) ⊎ (AppendsFront old.written new.written line × Rises old.faults new.faults)
+WritesLine line old new = (Appends old.written new.written line × (new.faults ≡ old.faults)) ⊎ (AppendsPart old.written new.written line × Rises old.faults new.faults)
 
 -- nothing was written
 abbrev pub WritesNothing : SinkShown → SinkShown → Type 0

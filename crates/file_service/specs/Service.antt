@@ -1,7 +1,7 @@
 -- What serving by a file comes to: what was served, and what was written (this project's own).
 use Rattle.std.specs.Prelude.{◌≡◌, ℕ, ◌<◌, ◌≤◌, List, length, slice_index_or, Option, codes}
 use Rattle.std.specs.Io.KnownBytes.{Appends}
-use Rattle.port_io.specs.Outside.{counted, Rises, AppendsFront}
+use Rattle.port_io.specs.Outside.{counted, Rises, AppendsPart}
 use Rattle.port_io.specs.SinkShown.{SinkShown}
 use Rattle.port_io.specs.Files as port
 use Rattle.conf_text.specs.Faults.{Limit}
@@ -36,10 +36,10 @@ abbrev pub HasServed : {P S D T : Type 0} → PortView P S → DeskView D T → 
 HasServed v w f ps qs d e status old new =
     (report : Report) × Served v w f ps qs d e report × WritesReport report status old new
 
--- 8: the reflector served by a file, and a front of the report was written, since a write failed
+-- 8: the reflector served by a file, and a part of the report was written, from its front on, since a write failed
 abbrev pub HasLostReport : {P S D T : Type 0} → PortView P S → DeskView D T → File → List P → List P → D → D → SinkShown → SinkShown → Type 0
 HasLostReport v w f ps qs d e old new =
-    (report : Report) × Served v w f ps qs d e report × AppendsFront old.written new.written (report_text report) × Rises old.faults new.faults
+    (report : Report) × Served v w f ps qs d e report × AppendsPart old.written new.written (report_text report) × Rises old.faults new.faults
 
 -- 4: the reflector served by a file, and there was no memory for the report
 abbrev pub HasNoReport : {P S D T : Type 0} → PortView P S → DeskView D T → File → List P → List P → D → D → Type 0

@@ -1,7 +1,7 @@
 //! Serving by the name of a file.
 
 ghost use Rattle.std.specs.Prelude.{ℕ, ◌≡◌, ◌≢◌, ◌⊎◌, ◌<◌, ◌≤◌, List, length, codes, Some, Ok, Err, IfOk};
-ghost use Rattle.port_io.specs.Outside.{Rises, AppendsFront};
+ghost use Rattle.port_io.specs.Outside.{Rises, AppendsPart};
 ghost use Rattle.conf_text.specs.Faults.{Limit};
 ghost use Rattle.port_io.specs.Files as port;
 ghost use Rattle.port_io.specs.Files.{content};
@@ -60,7 +60,7 @@ fn refuse_workers<K: Sink>(alloc: Global, out: &mut K) -> u8
 /// where it can't be written.
 fn tell_report<K: Sink>(alloc: Global, report: &Report, out: &mut K) -> u8
     ensures memory { result ≡ 4 → WritesNothing (K.shown out.old) (K.shown out.new) }
-    ensures lost { result ≡ 8 → AppendsFront (K.shown out.old).written (K.shown out.new).written (spec.report_text report.now) × Rises (K.shown out.old).faults (K.shown out.new).faults }
+    ensures lost { result ≡ 8 → AppendsPart (K.shown out.old).written (K.shown out.new).written (spec.report_text report.now) × Rises (K.shown out.old).faults (K.shown out.new).faults }
     ensures told { (result ≡ 4) ⊎ (result ≡ 8) ⊎ WritesReport report.now result (K.shown out.old) (K.shown out.new) }
 {
     let Ok(text) = write_report(alloc, &report.workers, &report.desk, report.live) else {

@@ -2,7 +2,7 @@
 
 ghost use Rattle.std.specs.Prelude.{◌≡◌, ◌⊎◌, ◌≤◌, IfOk, string_bytes};
 ghost use Rattle.std.specs.Io.KnownBytes.{Appends, Keeps};
-ghost use Rattle.port_io.specs.Outside.{Rises, AppendsFront};
+ghost use Rattle.port_io.specs.Outside.{Rises, AppendsPart};
 ghost use Rattle.load_report.specs.Report.{report, count_limit};
 
 use crate::lines::lines_of;
@@ -35,7 +35,7 @@ pub fn report_load<K: Sink>(alloc: Global, seed: u64, count: u32, out: &mut K) -
     ensures statuses { (result ≡ 0) ⊎ (result ≡ 4) ⊎ (result ≡ 8) }
     ensures done { result ≡ 0 → Appends (K.shown out.old).written (K.shown out.new).written (report seed count) }
     ensures memory { result ≡ 4 → Keeps (K.shown out.old).written (K.shown out.new).written }
-    ensures cut_short { result ≡ 8 → AppendsFront (K.shown out.old).written (K.shown out.new).written (report seed count) }
+    ensures cut_short { result ≡ 8 → AppendsPart (K.shown out.old).written (K.shown out.new).written (report seed count) }
     ensures write_fault { result ≡ 8 → Rises (K.shown out.old).faults (K.shown out.new).faults }
     ensures no_write_fault { (result ≡ 0) ⊎ (result ≡ 4) → (K.shown out.new).faults ≡ (K.shown out.old).faults }
 {

@@ -2,7 +2,7 @@
 
 ghost use Rattle.std.specs.Prelude.{◌≡◌, ℕ, ◌<◌, ◌≤◌, List, Option, length, IfOk, OnOk, OnErr};
 ghost use Rattle.std.specs.Io.KnownBytes.{ReadConsumes, WriteAppends, Appends};
-ghost use Rattle.port_io.specs.Outside.{Rises, AppendsFront, counted};
+ghost use Rattle.port_io.specs.Outside.{Rises, AppendsFront, AppendsPart, counted};
 ghost use Rattle.port_io.specs.SinkShown.{SinkShown};
 
 /// A call of the outside failed, and the object counted it.
@@ -49,11 +49,12 @@ pub trait Sink {
         ensures cause { OnErr result (Rises (shown self.old).faults (shown self.new).faults) };
 }
 
-/// Writes all of the octets, unless a write fails; then a front of them was written.
+/// Writes all of the octets, unless a write fails; then a front of them was written, and not all.
 #[tactic(auto, using(crate::proofs::Known::appends_front))]
 pub fn write_all<K: Sink>(out: &mut K, octets: &[u8]) -> Result<(), Failed>
     ensures all { OnOk result (Appends (K.shown out.old).written (K.shown out.new).written octets.now) }
     ensures front { OnErr result (AppendsFront (K.shown out.old).written (K.shown out.new).written octets.now) }
+    ensures part { OnErr result (AppendsPart (K.shown out.old).written (K.shown out.new).written octets.now) }
     ensures still { OnOk result ((K.shown out.new).faults ≡ (K.shown out.old).faults) }
     ensures cause { OnErr result (Rises (K.shown out.old).faults (K.shown out.new).faults) }
 {

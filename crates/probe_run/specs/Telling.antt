@@ -1,7 +1,7 @@
 -- What a measurement comes to: what was measured, and what was written (this project's own).
 use Rattle.std.specs.Prelude.{◌≡◌, ◌⊎◌, ℕ, ◌≤◌, List, [], ◌∷◌, Some}
 use Rattle.std.specs.Io.KnownBytes.{Appends}
-use Rattle.port_io.specs.Outside.{counted, Rises, AppendsFront}
+use Rattle.port_io.specs.Outside.{counted, Rises, AppendsPart}
 use Rattle.port_io.specs.SinkShown.{SinkShown}
 use Rattle.net_io.specs.Port.{PortEntry}
 use Rattle.net_io.specs.PortShown.{PortShown}
@@ -51,10 +51,10 @@ pub record WritesMeasured (m : Measured) (status : ℕ) (old new : SinkShown) : 
 abbrev pub HasTold : {P S : Type 0} → PortView P S → Probe → ℕ → SinkShown → SinkShown → P → P → Type 0
 HasTold v probe status old new p q = (m : Measured) × HasMeasured v probe m p q × WritesMeasured m status old new
 
--- 8: it was measured, and a front of the lines was written, since a write failed
+-- 8: it was measured, and a part of the lines was written, from their front on, since a write failed
 abbrev pub HasLostLines : {P S : Type 0} → PortView P S → Probe → SinkShown → SinkShown → P → P → Type 0
 HasLostLines v probe old new p q =
-    (m : Measured) × HasMeasured v probe m p q × AppendsFront old.written new.written (lines_of m.counts) × Rises old.faults new.faults
+    (m : Measured) × HasMeasured v probe m p q × AppendsPart old.written new.written (lines_of m.counts) × Rises old.faults new.faults
 
 -- 4: there was no memory for the measurement, or for its lines
 abbrev pub HasNoLines : {P S : Type 0} → PortView P S → Probe → P → P → Type 0

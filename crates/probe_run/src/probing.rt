@@ -1,7 +1,7 @@
 //! The command: a measurement at the first port, and what is told of it.
 
 ghost use Rattle.std.specs.Prelude.{◌≡◌, ◌⊎◌, ◌≤◌, []};
-ghost use Rattle.port_io.specs.Outside.{counted, Rises, AppendsFront};
+ghost use Rattle.port_io.specs.Outside.{counted, Rises, AppendsPart};
 ghost use Rattle.conf_check.specs.Writing.{WritesLine, WritesNothing};
 ghost use Rattle.probe_run.specs.Plan.{IsProbe};
 ghost use Rattle.probe_run.specs.Lines as spec;
@@ -53,7 +53,7 @@ fn refuse<K: Sink>(out: &mut K) -> u8
 /// 8 where they can't be written.
 fn tell_measured<K: Sink>(alloc: Global, measured: &Measured, out: &mut K) -> u8
     ensures memory { result ≡ 4 → WritesNothing (K.shown out.old) (K.shown out.new) }
-    ensures lost { result ≡ 8 → AppendsFront (K.shown out.old).written (K.shown out.new).written (spec.lines_of measured.now.counts) × Rises (K.shown out.old).faults (K.shown out.new).faults }
+    ensures lost { result ≡ 8 → AppendsPart (K.shown out.old).written (K.shown out.new).written (spec.lines_of measured.now.counts) × Rises (K.shown out.old).faults (K.shown out.new).faults }
     ensures no_write_fault { (result ≡ 0) ⊎ (result ≡ 4) → (K.shown out.new).faults ≡ (K.shown out.old).faults }
     ensures told { (result ≡ 4) ⊎ (result ≡ 8) ⊎ WritesMeasured measured.now result (K.shown out.old) (K.shown out.new) }
 {

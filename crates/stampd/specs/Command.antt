@@ -2,7 +2,7 @@
 use Rattle.std.specs.Prelude.{ℕ, ◌≡◌, ◌⊎◌, ◌<◌, ◌≤◌, ◌^◌, nat_eq, false, List, [], ◌∷◌, ◌++◌, codes, decimal}
 use Rattle.std.specs.List.{starts_with}
 use Rattle.std.specs.Io.KnownBytes.{Appends}
-use Rattle.port_io.specs.Outside.{AppendsFront}
+use Rattle.port_io.specs.Outside.{AppendsPart}
 use Rattle.port_io.specs.SinkShown.{SinkShown}
 use Rattle.load_report.specs.Report.{count_limit, report}
 
@@ -40,12 +40,12 @@ pub record IsGen (seed count : ℕ) (words : List (List ℕ)) : Type 0 where
 abbrev pub IsCommand : List (List ℕ) → Type 0
 IsCommand words = IsReplay words ⊎ ((name : List ℕ) × IsCheck name words) ⊎ ((seed count : ℕ) × IsGen seed count words)
 
--- gen, and just the lines of that load were written, or a front of them
+-- gen, and just the lines of that load were written, or a front of them that isn't all
 abbrev pub WasReported : List (List ℕ) → SinkShown → SinkShown → Type 0
 WasReported words old new = (seed count : ℕ) × IsGen seed count words × Appends old.written new.written (report seed count)
 
 abbrev pub ReportWasCut : List (List ℕ) → SinkShown → SinkShown → Type 0
-ReportWasCut words old new = (seed count : ℕ) × IsGen seed count words × AppendsFront old.written new.written (report seed count)
+ReportWasCut words old new = (seed count : ℕ) × IsGen seed count words × AppendsPart old.written new.written (report seed count)
 
 -- one of all commands
 abbrev pub IsAnyCommand : List (List ℕ) → Type 0
