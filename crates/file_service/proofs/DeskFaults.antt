@@ -492,8 +492,8 @@ owes_run f (suc left) failed s =
     (behind_failure failed (is_over left (failed + 1)) (desk_plan f left (failed + 1) s) (due_late left failed) (owes_run f left (failed + 1) s))
 
 -- a desk that ended by a fault has told 64 failures of its own
-pub desk_failed : {D T : Type 0} (w : DeskView D T) (t : Table) (f : File) (d e : D) (b c : Book) (y : DeskTally) → IsRun w t f d e b c y → y.end ≡ ends.Fault → min ((w d).faults + 64) (2 ^ 64 - 1) ≤ (w e).faults
-desk_failed w t f d e b c y h fault =
+pub desk_failed : {D T : Type 0} (w : DeskView D T) (goes : D → DeskEntry → D → Type 0) (t : Table) (f : File) (d e : D) (b c : Book) (y : DeskTally) → IsRun w goes t f d e b c y → y.end ≡ ends.Fault → min ((w d).faults + 64) (2 ^ 64 - 1) ≤ (w e).faults
+desk_failed w goes t f d e b c y h fault =
     let plan = desk_plan (setting_of f) f.turns 0 (first_state f) in
     let owed = owes_run (setting_of f) f.turns 0 (first_state f) in
     let many = owed.owed h.ran.acts (subst (λ (x : DeskEnd). Leads plan h.ran.acts (stop x)) fault h.ran.leads) in

@@ -4,6 +4,7 @@ use Rattle.std.specs.Io.KnownBytes.{Appends}
 use Rattle.port_io.specs.Outside.{counted, Rises, AppendsPart}
 use Rattle.port_io.specs.SinkShown.{SinkShown}
 use Rattle.port_io.specs.Files as port
+use Rattle.net_io.specs.Desk.{DeskEntry}
 use Rattle.conf_text.specs.Faults.{Limit}
 use Rattle.conf_text.specs.File.{File}
 use Rattle.conf_check.specs.Lines.{fault_line}
@@ -32,18 +33,18 @@ pub record WritesReport (report : Report) (status : ℕ) (old new : SinkShown) :
   pub end : TellsEnd (run_end report) status reported new
 
 -- 0, 9, 10, 11: the reflector served by a file, and the report was written, with the status and the line of its end
-abbrev pub HasServed : {P S D T : Type 0} → PortView P S → DeskView D T → File → List P → List P → D → D → ℕ → SinkShown → SinkShown → Type 0
-HasServed v w f ps qs d e status old new =
-    (report : Report) × Served v w f ps qs d e report × WritesReport report status old new
+abbrev pub HasServed : {P S D T : Type 0} → PortView P S → DeskView D T → (D → DeskEntry → D → Type 0) → File → List P → List P → D → D → ℕ → SinkShown → SinkShown → Type 0
+HasServed v w goes f ps qs d e status old new =
+    (report : Report) × Served v w goes f ps qs d e report × WritesReport report status old new
 
 -- 8: the reflector served by a file, and a part of the report was written, from its front on, since a write failed
-abbrev pub HasLostReport : {P S D T : Type 0} → PortView P S → DeskView D T → File → List P → List P → D → D → SinkShown → SinkShown → Type 0
-HasLostReport v w f ps qs d e old new =
-    (report : Report) × Served v w f ps qs d e report × AppendsPart old.written new.written (report_text report) × Rises old.faults new.faults
+abbrev pub HasLostReport : {P S D T : Type 0} → PortView P S → DeskView D T → (D → DeskEntry → D → Type 0) → File → List P → List P → D → D → SinkShown → SinkShown → Type 0
+HasLostReport v w goes f ps qs d e old new =
+    (report : Report) × Served v w goes f ps qs d e report × AppendsPart old.written new.written (report_text report) × Rises old.faults new.faults
 
 -- 4: the reflector served by a file, and there was no memory for the report
-abbrev pub HasNoReport : {P S D T : Type 0} → PortView P S → DeskView D T → File → List P → List P → D → D → Type 0
-HasNoReport v w f ps qs d e = (report : Report) × Served v w f ps qs d e report
+abbrev pub HasNoReport : {P S D T : Type 0} → PortView P S → DeskView D T → (D → DeskEntry → D → Type 0) → File → List P → List P → D → D → Type 0
+HasNoReport v w goes f ps qs d e = (report : Report) × Served v w goes f ps qs d e report
 
 -- 9: a port failed to open, which was told; nothing was received or sent
 pub record HasClosedPort {P S D : Type 0} (v : PortView P S) (ps qs : List P) (d e : D) (old new : SinkShown) : Type 0 where

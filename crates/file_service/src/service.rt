@@ -83,12 +83,12 @@ fn serve_conf<R: Threads + Sync, K: Sink, P: Port + Send, D: Desk>(
 ) -> u8
     requires { conf.now.workers ≤ length ports.old }
     ensures statuses { (result ≡ 0) ⊎ (result ≡ 4) ⊎ (result ≡ 8) ⊎ (result ≡ 9) ⊎ (result ≡ 10) ⊎ (result ≡ 11) }
-    ensures done { result ≡ 0 → HasServed P.shown D.shown conf.now ports.old ports.new desk.old desk.new 0 (K.shown out.old) (K.shown out.new) }
-    ensures memory { result ≡ 4 → WritesNothing (K.shown out.old) (K.shown out.new) × (((ports.new ≡ ports.old) × (desk.new ≡ desk.old)) ⊎ HasNoReport P.shown D.shown conf.now ports.old ports.new desk.old desk.new) }
-    ensures lost { result ≡ 8 → HasLostReport P.shown D.shown conf.now ports.old ports.new desk.old desk.new (K.shown out.old) (K.shown out.new) }
-    ensures port_failed { result ≡ 9 → HasClosedPort P.shown ports.old ports.new desk.old desk.new (K.shown out.old) (K.shown out.new) ⊎ HasServed P.shown D.shown conf.now ports.old ports.new desk.old desk.new 9 (K.shown out.old) (K.shown out.new) }
-    ensures desk_failed { result ≡ 10 → HasClosedDesk P.shown D.shown ports.old ports.new desk.old desk.new (K.shown out.old) (K.shown out.new) ⊎ HasServed P.shown D.shown conf.now ports.old ports.new desk.old desk.new 10 (K.shown out.old) (K.shown out.new) }
-    ensures budget_spent { result ≡ 11 → HasServed P.shown D.shown conf.now ports.old ports.new desk.old desk.new 11 (K.shown out.old) (K.shown out.new) }
+    ensures done { result ≡ 0 → HasServed P.shown D.shown D.goes conf.now ports.old ports.new desk.old desk.new 0 (K.shown out.old) (K.shown out.new) }
+    ensures memory { result ≡ 4 → WritesNothing (K.shown out.old) (K.shown out.new) × (((ports.new ≡ ports.old) × (desk.new ≡ desk.old)) ⊎ HasNoReport P.shown D.shown D.goes conf.now ports.old ports.new desk.old desk.new) }
+    ensures lost { result ≡ 8 → HasLostReport P.shown D.shown D.goes conf.now ports.old ports.new desk.old desk.new (K.shown out.old) (K.shown out.new) }
+    ensures port_failed { result ≡ 9 → HasClosedPort P.shown ports.old ports.new desk.old desk.new (K.shown out.old) (K.shown out.new) ⊎ HasServed P.shown D.shown D.goes conf.now ports.old ports.new desk.old desk.new 9 (K.shown out.old) (K.shown out.new) }
+    ensures desk_failed { result ≡ 10 → HasClosedDesk P.shown D.shown ports.old ports.new desk.old desk.new (K.shown out.old) (K.shown out.new) ⊎ HasServed P.shown D.shown D.goes conf.now ports.old ports.new desk.old desk.new 10 (K.shown out.old) (K.shown out.new) }
+    ensures budget_spent { result ≡ 11 → HasServed P.shown D.shown D.goes conf.now ports.old ports.new desk.old desk.new 11 (K.shown out.old) (K.shown out.new) }
     ensures port_cause { result ≡ 9 → OneHasFailed P.shown ports.old ports.new }
     ensures desk_cause { result ≡ 10 → HasRisen (D.shown desk.old).faults (D.shown desk.new).faults }
     ensures complete { NothingFails P.shown D.shown ports.old ports.new desk.old desk.new (K.shown out.old) (K.shown out.new) → (result ≡ 0) ⊎ (result ≡ 4) ⊎ (result ≡ 11) }
@@ -125,14 +125,14 @@ pub fn run_file<R: Threads + Sync, K: Sink, F: Files, P: Port + Send, D: Desk>(
     ensures not_loaded { result ≡ 5 → WasNotLoaded (F.files files.old) name.now (F.faults files.old) (F.faults files.new) (K.shown out.old) (K.shown out.new) }
     ensures untouched { (result ≡ 3) ⊎ (result ≡ 5) → (ports.new ≡ ports.old) × (desk.new ≡ desk.old) }
     ensures memory { result ≡ 4 → WritesNothing (K.shown out.old) (K.shown out.new) }
-    ensures memory_served { result ≡ 4 → ((ports.new ≡ ports.old) × (desk.new ≡ desk.old)) ⊎ OfFile (F.files files.old) name.now ports.old (λ f. HasNoReport P.shown D.shown f ports.old ports.new desk.old desk.new) }
+    ensures memory_served { result ≡ 4 → ((ports.new ≡ ports.old) × (desk.new ≡ desk.old)) ⊎ OfFile (F.files files.old) name.now ports.old (λ f. HasNoReport P.shown D.shown D.goes f ports.old ports.new desk.old desk.new) }
 
     // The file was served, and its report written.
-    ensures done { result ≡ 0 → OfFile (F.files files.old) name.now ports.old (λ f. HasServed P.shown D.shown f ports.old ports.new desk.old desk.new 0 (K.shown out.old) (K.shown out.new)) }
-    ensures lost { result ≡ 8 → OfFile (F.files files.old) name.now ports.old (λ f. HasLostReport P.shown D.shown f ports.old ports.new desk.old desk.new (K.shown out.old) (K.shown out.new)) }
-    ensures port_failed { result ≡ 9 → OfFile (F.files files.old) name.now ports.old (λ f. HasClosedPort P.shown ports.old ports.new desk.old desk.new (K.shown out.old) (K.shown out.new) ⊎ HasServed P.shown D.shown f ports.old ports.new desk.old desk.new 9 (K.shown out.old) (K.shown out.new)) }
-    ensures desk_failed { result ≡ 10 → OfFile (F.files files.old) name.now ports.old (λ f. HasClosedDesk P.shown D.shown ports.old ports.new desk.old desk.new (K.shown out.old) (K.shown out.new) ⊎ HasServed P.shown D.shown f ports.old ports.new desk.old desk.new 10 (K.shown out.old) (K.shown out.new)) }
-    ensures budget_spent { result ≡ 11 → OfFile (F.files files.old) name.now ports.old (λ f. HasServed P.shown D.shown f ports.old ports.new desk.old desk.new 11 (K.shown out.old) (K.shown out.new)) }
+    ensures done { result ≡ 0 → OfFile (F.files files.old) name.now ports.old (λ f. HasServed P.shown D.shown D.goes f ports.old ports.new desk.old desk.new 0 (K.shown out.old) (K.shown out.new)) }
+    ensures lost { result ≡ 8 → OfFile (F.files files.old) name.now ports.old (λ f. HasLostReport P.shown D.shown D.goes f ports.old ports.new desk.old desk.new (K.shown out.old) (K.shown out.new)) }
+    ensures port_failed { result ≡ 9 → OfFile (F.files files.old) name.now ports.old (λ f. HasClosedPort P.shown ports.old ports.new desk.old desk.new (K.shown out.old) (K.shown out.new) ⊎ HasServed P.shown D.shown D.goes f ports.old ports.new desk.old desk.new 9 (K.shown out.old) (K.shown out.new)) }
+    ensures desk_failed { result ≡ 10 → OfFile (F.files files.old) name.now ports.old (λ f. HasClosedDesk P.shown D.shown ports.old ports.new desk.old desk.new (K.shown out.old) (K.shown out.new) ⊎ HasServed P.shown D.shown D.goes f ports.old ports.new desk.old desk.new 10 (K.shown out.old) (K.shown out.new)) }
+    ensures budget_spent { result ≡ 11 → OfFile (F.files files.old) name.now ports.old (λ f. HasServed P.shown D.shown D.goes f ports.old ports.new desk.old desk.new 11 (K.shown out.old) (K.shown out.new)) }
     ensures port_cause { result ≡ 9 → OneHasFailed P.shown ports.old ports.new }
     ensures desk_cause { result ≡ 10 → HasRisen (D.shown desk.old).faults (D.shown desk.new).faults }
 

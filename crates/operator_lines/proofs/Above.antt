@@ -95,7 +95,7 @@ above-dotted (a ∷ b ∷ rest) bytes =
     let small : a < 256 = bytes 0 in
     above-append 32 (decimal a ++ codes ".") (dotted (b ∷ rest)) (above-append 32 (decimal a) (codes ".") (above-decimal a (omega arith)) (omega arith, tt)) (above-dotted (b ∷ rest) (λ i. bytes (suc i)))
 
-above-address : (a : Address) → FitsAddress a → AreAbove 32 (address_text a)
+pub above-address : (a : Address) → FitsAddress a → AreAbove 32 (address_text a)
 above-address (V4 octets) fits = above-dotted octets fits.1
 above-address (V6 octets) fits = above-append 32 (codes "[" ++ grouped octets) (codes "]") (omega arith, above-grouped octets) (omega arith, tt)
 

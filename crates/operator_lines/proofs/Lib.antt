@@ -6,3 +6,4 @@ mod Asked
 mod Written
 mod Lengths
 mod Samples
+mod OneLines

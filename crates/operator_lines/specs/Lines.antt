@@ -58,6 +58,10 @@ AreWords s (lines.Count k) = IsNamable k × (s ≡ codes "count " ++ key_text k)
 AreWords s lines.List = s ≡ codes "list"
 AreWords s lines.Quit = s ≡ codes "quit"
 
+-- the line that asks for a session of a key, which need not be one that a line can name
+abbrev pub open_text : Key → List ℕ → ℕ → List ℕ
+open_text k name seconds = codes "open " ++ key_text k ++ codes " " ++ name ++ codes " " ++ decimal seconds ++ codes "\n"
+
 -- the text is this line, with its end
 abbrev pub IsLine : List ℕ → Line → Type 0
 IsLine s line = (words : List ℕ) × AreWords words line × (s ≡ words ++ codes "\n")

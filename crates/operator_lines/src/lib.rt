@@ -11,7 +11,7 @@ pub use answer::{Answer, Refusal};
 pub use laws::law_lines;
 pub use line::{LINE_MAX, Line, LineFault};
 pub use reading::read_line;
-pub use writing::write_answer;
+pub use writing::{write_answer, write_open};
 
 #[cfg(test)]
 mod tests;

@@ -2,6 +2,7 @@
 use Rattle.std.proofs.Common.{◌≡◌, ℕ, zero, suc, ◌+◌, List, [], ◌∷◌, ◌++◌, length, map, take, sym, refl, ap, ◌∙◌, subst, arith}
 use Rattle.refl_types.specs.declared.config.ConfigParts.{ConfigParts}
 use Rattle.net_io.specs.Port.{PortEntry}
+use Rattle.net_io.specs.Desk.{DeskEntry}
 use Rattle.session_world.specs.declared.steps.Step.{Step}
 use Rattle.session_world.specs.Sizes.{IsWithinLimits}
 use Rattle.session_world.specs.Desk.{config_at}
@@ -90,11 +91,11 @@ lists_length (r ∷ rs) = ap suc (lists_length rs)
 
 -- ---- all
 
-module _ {P S D T : Type 0} (v : PortView P S) (w : DeskView D T) (t : Table) (f : File) (room : Room) (os qs : List P) (d e : D) (rs mid : List (Post P)) (b at_end c : Book) (report : Report) where
-  pub has_served : JoinedHistory → IsWithinLimits (size_of t) → BookFits c → AreFresh rs → length os ≡ length rs → AllWorked v t f os qs rs mid → (ran : DeskRan t w f.turns room d e b at_end report.desk)
+module _ {P S D T : Type 0} (v : PortView P S) (w : DeskView D T) (goes : D → DeskEntry → D → Type 0) (t : Table) (f : File) (room : Room) (os qs : List P) (d e : D) (rs mid : List (Post P)) (b at_end c : Book) (report : Report) where
+  pub has_served : JoinedHistory → IsWithinLimits (size_of t) → BookFits c → AreFresh rs → length os ≡ length rs → AllWorked v t f os qs rs mid → (ran : DeskRan t w goes f.turns room d e b at_end report.desk)
       → ((first base : List Step) → Phase t first base at_end (length mid) [] → Phase t first base c 0 (lists_of mid)) → JoinsAll t 1 (lists_of mid) at_end c
       → report.workers.items ≡ map (λ (p : Post P). p.tally) mid → report.live ≡ length c.live
-      → (first base : List Step) → Phase t first base b (length rs) [] → HasServed v w t f room first os qs d e b c report
+      → (first base : List Step) → Phase t first base b (length rs) [] → HasServed v w goes t f room first os qs d e b c report
   has_served law within fits fresh len worked ran joins calls tallies live first base p =
       let p1 = run_phase t first base b at_end (length rs) p ran.went in
       let p2 = joins first (steps_of at_end) (subst (λ (n : ℕ). Phase t first (steps_of at_end) at_end n []) (sym (as_long v t f os qs rs mid worked)) p1) in

@@ -3,7 +3,7 @@ use Rattle.std.specs.Prelude.{◌≡◌, ℕ, ◌+◌, List, [], ◌∷◌, ◌+
 use Rattle.refl_types.specs.declared.config.ConfigParts.{ConfigParts}
 use Rattle.net_io.specs.Log.{Grows}
 use Rattle.net_io.specs.Port.{PortEntry, read}
-use Rattle.net_io.specs.Desk.{opened, open_failed}
+use Rattle.net_io.specs.Desk.{DeskEntry, opened, open_failed}
 use Rattle.net_io.specs.DeskShown.{DeskShown}
 use Rattle.port_io.specs.Outside.{Rises}
 use Rattle.session_world.specs.declared.steps.Step.{Step}
@@ -26,7 +26,7 @@ use Rattle.receive_worker.specs.Accounts.{Accounts}
 use Rattle.receive_worker.specs.Work.{Round, HasWorked}
 use Rattle.control_desk.specs.State.{setting_of, first_state}
 use Rattle.control_desk.specs.Faults.{AreFaultsTold}
-use Rattle.control_desk.specs.Run.{HasRun}
+use Rattle.control_desk.specs.Run.{HasRun, HasGone}
 use Rattle.reflector_serve.specs.Ports.{PortView}
 use Rattle.reflector_serve.specs.Phases.{SplitsOff, JoinsAll}
 use Rattle.reflector_serve.specs.Live.{AreBound}
@@ -90,11 +90,14 @@ pub record HasNotOpened {D S : Type 0} (v : DeskView D S) (d e : D) : Type 0 whe
   pub made : (v e).made ≡ (v d).made
   pub faults : Rises (v d).faults (v e).faults
 
--- The desk was opened at the file's addresses for control connections and operators. Then it ran over the book, and its log tells it
-pub record IsRun {D S : Type 0} (v : DeskView D S) (t : Table) (f : File) (d e : D) (b c : Book) (tally : DeskTally) : Type 0 where
+-- The desk was opened at the file's addresses for control connections and operators. Then it ran over the book, and its log tells it;
+-- and by each call, whether its log tells it or not, it went on as a desk of its type goes on
+pub record IsRun {D S : Type 0} (v : DeskView D S) (goes : D → DeskEntry → D → Type 0) (t : Table) (f : File) (d e : D) (b c : Book) (tally : DeskTally) : Type 0 where
   pub ready : D
   pub opening : Grows (v d).log (v ready).log (opened f.control f.operator ∷ [])
+  pub opens : goes d (opened f.control f.operator) ready
   pub ran : HasRun t (setting_of f) f.turns (first_state f) (v ready).log (v e).log b c tally
+  pub gone : HasGone goes t (setting_of f) f.turns (first_state f) ready e b c tally
   pub made : (v e).made ≡ (v d).made
   pub faults : AreFaultsTold (v d).faults (v e).faults tally.faults
 
@@ -108,7 +111,7 @@ pub record IsRun {D S : Type 0} (v : DeskView D S) (t : Table) (f : File) (d e :
 -- `begins`: the history begins with the openings of these sessions, in their order.
 -- `ports`: each worker served at its port, and its answers are its events (`one`); there are as many workers as the file says.
 -- `live`: as many keys are left bound as the report tells
-pub record Served {P S D T : Type 0} (v : PortView P S) (w : DeskView D T) (f : File) (ps qs : List P) (d e : D) (report : Report) : Type 0 where
+pub record Served {P S D T : Type 0} (v : PortView P S) (w : DeskView D T) (goes : D → DeskEntry → D → Type 0) (f : File) (ps qs : List P) (d e : D) (report : Report) : Type 0 where
   pub table : Table
   pub size : size_of table ≡ size_in f
   pub moment : ℕ
@@ -119,7 +122,7 @@ pub record Served {P S D T : Type 0} (v : PortView P S) (w : DeskView D T) (f : 
   pub at_split : Book
   pub splits : SplitsOff table f.workers at_first at_split
   pub at_end : Book
-  pub desk : IsRun w table f d e at_split at_end report.desk
+  pub desk : IsRun w goes table f d e at_split at_end report.desk
   pub joined : Book
   pub lists : List (List Step)
   pub workers : length lists ≡ f.workers

@@ -31,7 +31,7 @@ fn run_at<D: Desk>(
 ) -> DeskTally
     requires book { IsBookOf table.now book.old }
     requires open { IsTrue (D.shown desk.old).is_open }
-    ensures { DeskRan table.now D.shown conf.now.turns room.old desk.old desk.new book.old book.new result }
+    ensures { DeskRan table.now D.shown D.goes conf.now.turns room.old desk.old desk.new book.old book.new result }
 {
     run_desk(table, book, room, desk, conf.turns())
 }
@@ -52,7 +52,7 @@ pub(crate) fn run_all<R: Threads + Sync, P: Port + Send, D: Desk>(
     requires book { IsBookOf table.now book.old }
     requires open { IsTrue (D.shown desk.old).is_open }
     ensures workers { AllWorked P.shown table.now conf.now ports.old ports.new posts.old posts.new }
-    ensures desk { DeskRan table.now D.shown conf.now.turns room.old desk.old desk.new book.old book.new result }
+    ensures desk { DeskRan table.now D.shown D.goes conf.now.turns room.old desk.old desk.new book.old book.new result }
 {
     let (_, tally) = join_mut(
         rt,
@@ -62,7 +62,7 @@ pub(crate) fn run_all<R: Threads + Sync, P: Port + Send, D: Desk>(
         { work_all(rt, table, conf, ports, posts) },
         &mut ||
             requires { IsBookOf table.now book.now × IsTrue (D.shown desk.now).is_open }
-            ensures { DeskRan table.entry.now D.shown conf.entry.now.turns room.entry.now desk.entry.now desk.exit.now book.entry.now book.exit.now result }
+            ensures { DeskRan table.entry.now D.shown D.goes conf.entry.now.turns room.entry.now desk.entry.now desk.exit.now book.entry.now book.exit.now result }
         { run_at(table, conf, book, room, desk) },
     );
     tally
@@ -101,7 +101,7 @@ pub(crate) fn serve_split<R: Threads + Sync, P: Port + Send, D: Desk>(
     requires empty { tallies.items ≡ [] }
     requires space { vec_len posts ≤ vec_capacity tallies }
     ensures { (first base : List Step) → Phase table.now first base book.old (vec_len posts) []
-        → HasServed P.shown D.shown table.now conf.now room.old first ports.old ports.new desk.old desk.new book.old book.new result }
+        → HasServed P.shown D.shown D.goes table.now conf.now room.old first ports.old ports.new desk.old desk.new book.old book.new result }
 {
     let tally = run_all(
         rt,

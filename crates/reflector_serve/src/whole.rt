@@ -46,7 +46,7 @@ fn serve_at<R: Threads + Sync, P: Port + Send, D: Desk>(
     ensures memory { result ≡ Err ServeFault.Memory → (ports.new ≡ ports.old) × (desk.new ≡ desk.old) }
     ensures port_open { result ≡ Err ServeFault.PortOpen → AreQuiet P.shown ports.old ports.new × OneFails P.shown ports.old ports.new × (desk.new ≡ desk.old) }
     ensures desk_open { result ≡ Err ServeFault.DeskOpen → AreQuiet P.shown ports.old ports.new × HasNotOpened D.shown desk.old desk.new }
-    ensures served { IfOk result (λ r. Served P.shown D.shown conf.now ports.old ports.new desk.old desk.new r) }
+    ensures served { IfOk result (λ r. Served P.shown D.shown D.goes conf.now ports.old ports.new desk.old desk.new r) }
 {
     let count = conf.workers() as usize;
     let Ok((table, mut book)) = new_table(alloc, conf) else {
@@ -93,7 +93,7 @@ pub fn serve<R: Threads + Sync, P: Port + Send, D: Desk>(
     ensures memory { result ≡ Err ServeFault.Memory → (ports.new ≡ ports.old) × (desk.new ≡ desk.old) }
     ensures port_open { result ≡ Err ServeFault.PortOpen → AreQuiet P.shown ports.old ports.new × OneFails P.shown ports.old ports.new × (desk.new ≡ desk.old) }
     ensures desk_open { result ≡ Err ServeFault.DeskOpen → AreQuiet P.shown ports.old ports.new × HasNotOpened D.shown desk.old desk.new }
-    ensures served { IfOk result (λ r. Served P.shown D.shown conf.now ports.old ports.new desk.old desk.new r) }
+    ensures served { IfOk result (λ r. Served P.shown D.shown D.goes conf.now ports.old ports.new desk.old desk.new r) }
 {
     let (serving, _others) = ports.split_at_mut(conf.workers() as usize);
     serve_at(rt, alloc, conf, serving, desk)

@@ -6,6 +6,7 @@ use Rattle.control_desk.specs.declared.counts.DeskEnd.{DeskEnd}
 use Rattle.control_desk.specs.declared.counts.DeskEnd.TheVariants as desk_ends
 use Rattle.receive_worker.specs.declared.tally.Tally.{Tally}
 use Rattle.control_desk.specs.declared.counts.DeskTally.{DeskTally}
+use Rattle.report_text.specs.declared.learned.Learned.{Learned}
 
 -- words, each followed by a number
 abbrev pub items_text : List (List ℕ × ℕ) → List ℕ
@@ -45,3 +46,7 @@ workers_text w (t ∷ ts) = worker_text w t ++ workers_text (suc w) ts
 
 abbrev pub report_text : List Tally → DeskTally → ℕ → List ℕ
 report_text workers desk live = workers_text 0 workers ++ desk_text desk ++ sessions_text desk live
+
+-- the line of learned sessions
+abbrev pub learned_line : Learned → List ℕ
+learned_line l = items_text ((codes "learned opened ", l.opened) ∷ (codes " refused ", l.refused) ∷ (codes " left ", l.left) ∷ (codes " full ", l.full) ∷ []) ++ codes "\n"

@@ -4,8 +4,11 @@
 ghost use Rattle.std.specs.Prelude.{◌≡◌, ◌++◌, IfOk, map};
 ghost use Rattle.report_text.specs.Report as spec;
 
+mod learned;
+
 use control_desk::{DeskEnd, DeskTally};
 use itoa::Buffer;
+pub use learned::Learned;
 use receive_worker::{Tally, WorkEnd};
 use refl_types::Memory;
 use std::alloc::{AllocError, Global};
@@ -117,6 +120,36 @@ pub fn write_report(
 {
     let mut out = Vec::new(alloc);
     match add_report(&mut out, workers, desk, live) {
+        Ok(()) => Ok(out),
+        Err(_) => Err(Memory),
+    }
+}
+
+fn add_learned(out: &mut Vec<u8>, learned: &Learned) -> Result<(), AllocError>
+    ensures { IfOk result (λ _. out.new.items ≡ out.old.items ++ spec.learned_line learned.now) }
+{
+    let items = [
+        ("learned opened ", learned.opened),
+        (" refused ", learned.refused),
+        (" left ", learned.left),
+        (" full ", learned.full),
+    ];
+    add_items(out, &items)?;
+    out.extend_from_slice(b"\n")
+}
+
+/// Writes the report of a run with learned sessions, which ends with a line for these. Only want of memory refuses it.
+pub fn write_learned(
+    alloc: Global,
+    workers: &[Tally],
+    desk: &DeskTally,
+    live: u32,
+    learned: &Learned,
+) -> Result<Vec<u8>, Memory>
+    ensures { IfOk result (λ v. v.items ≡ spec.report_text workers.now desk.now live ++ spec.learned_line learned.now) }
+{
+    let mut out = write_report(alloc, workers, desk, live)?;
+    match add_learned(&mut out, learned) {
         Ok(()) => Ok(out),
         Err(_) => Err(Memory),
     }

@@ -55,11 +55,11 @@ pub fn stampd<R: Threads + Sync, S: Source, K: Sink, F: Files, P: Port + Send, D
     // served by the file, with this report, which was written; or the lines of the load were written.
     ensures done { result ≡ 0 → (IsReplay (map string_bytes words.now) × IsDone (S.left input.old) (S.left input.new) (K.shown out.old).written (K.shown out.new).written)
         ⊎ ((name : List ℕ) × IsCheck name (map string_bytes words.now) × WasAccepted (F.files files.old) name (K.shown out.old) (K.shown out.new))
-        ⊎ ((name : List ℕ) × IsRun name (map string_bytes words.now) × OfFile (F.files files.old) name ports.old (λ f. HasServed P.shown D.shown f ports.old ports.new desk.old desk.new 0 (K.shown out.old) (K.shown out.new)))
+        ⊎ ((name : List ℕ) × IsRun name (map string_bytes words.now) × OfFile (F.files files.old) name ports.old (λ f. HasServed P.shown D.shown D.goes f ports.old ports.new desk.old desk.new 0 (K.shown out.old) (K.shown out.new)))
         ⊎ WasReported (map string_bytes words.now) (K.shown out.old) (K.shown out.new) }
     ensures memory { result ≡ 4 → IsUntouched (S.left input.old) (S.left input.new) (K.shown out.old).written (K.shown out.new).written }
     ensures memory_served { result ≡ 4 → ((ports.new ≡ ports.old) × (desk.new ≡ desk.old))
-        ⊎ ((name : List ℕ) × IsRun name (map string_bytes words.now) × OfFile (F.files files.old) name ports.old (λ f. HasNoReport P.shown D.shown f ports.old ports.new desk.old desk.new)) }
+        ⊎ ((name : List ℕ) × IsRun name (map string_bytes words.now) × OfFile (F.files files.old) name ports.old (λ f. HasNoReport P.shown D.shown D.goes f ports.old ports.new desk.old desk.new)) }
 
     // The text of the file has a fault, and the first is told; or it has more workers than there are ports.
     ensures faulty { result ≡ 3 → ((name : List ℕ) × (IsCheck name (map string_bytes words.now) ⊎ IsRun name (map string_bytes words.now)) × WasFaulty (F.files files.old) name (K.shown out.old) (K.shown out.new))
@@ -83,16 +83,16 @@ pub fn stampd<R: Threads + Sync, S: Source, K: Sink, F: Files, P: Port + Send, D
     // A write failed: a front of what was due was written.
     ensures output { result ≡ 8 → (IsReplay (map string_bytes words.now) × WasStopped (S.left input.old) (S.left input.new) (K.shown out.old).written (K.shown out.new).written)
         ⊎ ((name : List ℕ) × IsCheck name (map string_bytes words.now) × WasCutShort (F.files files.old) name (K.shown out.old) (K.shown out.new))
-        ⊎ ((name : List ℕ) × IsRun name (map string_bytes words.now) × OfFile (F.files files.old) name ports.old (λ f. HasLostReport P.shown D.shown f ports.old ports.new desk.old desk.new (K.shown out.old) (K.shown out.new)))
+        ⊎ ((name : List ℕ) × IsRun name (map string_bytes words.now) × OfFile (F.files files.old) name ports.old (λ f. HasLostReport P.shown D.shown D.goes f ports.old ports.new desk.old desk.new (K.shown out.old) (K.shown out.new)))
         ⊎ ReportWasCut (map string_bytes words.now) (K.shown out.old) (K.shown out.new) }
     ensures write_fault { result ≡ 8 → Rises (K.shown out.old).faults (K.shown out.new).faults }
     ensures no_write_fault { (result ≡ 0) ⊎ (result ≡ 4) ⊎ (result ≡ 6) ⊎ (result ≡ 7) → (K.shown out.new).faults ≡ (K.shown out.old).faults }
 
     // A port failed to open, or failed too often in a row; the desk did; a worker or the desk made as many calls as the file
     // lets it. Where the reflector served, its report was written before the line.
-    ensures port_failed { result ≡ 9 → (name : List ℕ) × IsRun name (map string_bytes words.now) × OfFile (F.files files.old) name ports.old (λ f. HasClosedPort P.shown ports.old ports.new desk.old desk.new (K.shown out.old) (K.shown out.new) ⊎ HasServed P.shown D.shown f ports.old ports.new desk.old desk.new 9 (K.shown out.old) (K.shown out.new)) }
-    ensures desk_failed { result ≡ 10 → (name : List ℕ) × IsRun name (map string_bytes words.now) × OfFile (F.files files.old) name ports.old (λ f. HasClosedDesk P.shown D.shown ports.old ports.new desk.old desk.new (K.shown out.old) (K.shown out.new) ⊎ HasServed P.shown D.shown f ports.old ports.new desk.old desk.new 10 (K.shown out.old) (K.shown out.new)) }
-    ensures budget_spent { result ≡ 11 → (name : List ℕ) × IsRun name (map string_bytes words.now) × OfFile (F.files files.old) name ports.old (λ f. HasServed P.shown D.shown f ports.old ports.new desk.old desk.new 11 (K.shown out.old) (K.shown out.new)) }
+    ensures port_failed { result ≡ 9 → (name : List ℕ) × IsRun name (map string_bytes words.now) × OfFile (F.files files.old) name ports.old (λ f. HasClosedPort P.shown ports.old ports.new desk.old desk.new (K.shown out.old) (K.shown out.new) ⊎ HasServed P.shown D.shown D.goes f ports.old ports.new desk.old desk.new 9 (K.shown out.old) (K.shown out.new)) }
+    ensures desk_failed { result ≡ 10 → (name : List ℕ) × IsRun name (map string_bytes words.now) × OfFile (F.files files.old) name ports.old (λ f. HasClosedDesk P.shown D.shown ports.old ports.new desk.old desk.new (K.shown out.old) (K.shown out.new) ⊎ HasServed P.shown D.shown D.goes f ports.old ports.new desk.old desk.new 10 (K.shown out.old) (K.shown out.new)) }
+    ensures budget_spent { result ≡ 11 → (name : List ℕ) × IsRun name (map string_bytes words.now) × OfFile (F.files files.old) name ports.old (λ f. HasServed P.shown D.shown D.goes f ports.old ports.new desk.old desk.new 11 (K.shown out.old) (K.shown out.new)) }
 
     ensures port_cause { result ≡ 9 → OneHasFailed P.shown ports.old ports.new }
     ensures desk_cause { result ≡ 10 → HasRisen (D.shown desk.old).faults (D.shown desk.new).faults }

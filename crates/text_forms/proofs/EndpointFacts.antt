@@ -8,8 +8,8 @@ use Rattle.refl_types.specs.declared.types.Address.TheVariants.{V4, V6}
 use Rattle.refl_types.specs.declared.types.Endpoint.{Endpoint}
 use Rattle.refl_types.specs.Spelling.{FitsAddress}
 use Rattle.text_forms.specs.Numbers.{number_from}
-use Rattle.text_forms.specs.Endpoints.{cut, dot, colon, open_bracket, close_bracket, four, v4_from, v6_at, mark_at, v4_endpoint_from, v6_endpoint_from, endpoint_from, endpoint_text, HasText}
-use Rattle.text_forms.proofs.Binds.{bind-some, bind-is, some-is}
+use Rattle.text_forms.specs.Endpoints.{cut, dot, colon, open_bracket, close_bracket, slash, four, v4_from, prefix_from, prefix_text, v6_at, mark_at, v4_endpoint_from, v6_endpoint_from, endpoint_from, endpoint_text, HasText}
+use Rattle.text_forms.proofs.Binds.{bind-some, bind-is, same-pair, some-is}
 use Rattle.text_forms.proofs.NumberFacts.{number_from-decimal, text-number}
 use Rattle.text_forms.proofs.DottedFacts.{Lacks, Lacks-append, Lacks-decimal, cut-text, text-cut, AreSmall, dotted_text, v4_from-text, text-v4_from}
 use Rattle.text_forms.proofs.HexFacts.{Four, AreOctets, sixteen, v6_text, v6_at-text, text-v6_at, text-mark_at}
@@ -129,6 +129,38 @@ v4-read s e is =
     let text : s ≡ dotted_text w x y z ++ colon ∷ decimal port = rw (← p-text, ← port-text) (text-cut colon s p p-is) in
     let fits : HasText (record { address = V4 (w ∷ x ∷ y ∷ z ∷ []); port = port }) = record { fits = record { address = (refl, small-bytes w x y z small); port = omega arith }; port = least } in
     subst P same (fits, text ∙ sym (v4_text_is w x y z port))))))
+
+-- ---- a prefix
+
+prefix_text_is : (w x y z len : ℕ) → prefix_text (w ∷ x ∷ y ∷ z ∷ []) len ≡ dotted_text w x y z ++ slash ∷ decimal len
+prefix_text_is w x y z len = simp append_assoc
+
+pub prefix-read : (octets : List ℕ) (len : ℕ) (s : List ℕ) → prefix_from s ≡ Some (octets, len) → IsArray 4 octets × (len ≤ 32) × (s ≡ prefix_text octets len)
+prefix-read octets len s is =
+    bind-some (cut slash s) _ _ is (λ p p-is more-p.
+    bind-some (v4_from p.0) _ _ more-p (λ read read-is more-read.
+    bind-some (number_from 0 32 p.1) _ _ more-read (λ n n-is end.
+    text-v4_from p.0 read read-is (λ w x y z small same p-text.
+    let (n-text, least, most) = text-number 0 32 n p.1 n-is in
+    let pair = same-pair (read, n) (octets, len) end in
+    let text : s ≡ dotted_text w x y z ++ slash ∷ decimal n = rw (← p-text, ← n-text) (text-cut slash s p p-is) in
+    let all : octets ≡ w ∷ x ∷ y ∷ z ∷ [] = sym pair.0 ∙ same in (
+      subst (IsArray 4) (sym all) (refl, small-bytes w x y z small),
+      subst (λ (k : ℕ). k ≤ 32) pair.1 most,
+      rw (all, ← pair.1) (text ∙ sym (prefix_text_is w x y z n)),
+    )))))
+
+pub prefix-written : (octets : List ℕ) (len : ℕ) → IsArray 4 octets → len ≤ 32 → prefix_from (prefix_text octets len) ≡ Some (octets, len)
+prefix-written octets len fits most =
+    take_four octets 0 fits.0 fits.1 (λ a l a-small l-len l-bytes l-is.
+    let all : octets ≡ four a [] = l-is ∙ ap (four a) (nothing_left l l-len) in
+    let small : AreSmall a.0 a.1 a.2 a.3 = record { first = omega (arith, a-small.first); second = omega (arith, a-small.second); third = omega (arith, a-small.third); fourth = omega (arith, a-small.fourth) } in
+    let front = dotted_text a.0 a.1 a.2 a.3 in
+    let P : List ℕ → Type 0 = λ s. prefix_from (prefix_text s len) ≡ Some (s, len) in
+    subst P (sym all) (ap prefix_from (prefix_text_is a.0 a.1 a.2 a.3 len)
+    ∙ bind-is (cut slash (front ++ slash ∷ decimal len)) _ _ _ (cut-text slash front (decimal len) (dotted-lacks slash a.0 a.1 a.2 a.3 small (lit≤ tt) refl))
+    (bind-is (v4_from front) _ _ _ (v4_from-text a.0 a.1 a.2 a.3 small)
+    (bind-is (number_from 0 32 (decimal len)) len _ _ (number_from-decimal 0 32 len (decimal len) (omega (arith, most)) (omega arith) most refl) refl))))
 
 -- ---- either
 

@@ -46,6 +46,10 @@ pub record HasText (e : Endpoint) : Type 0 where
   pub fits : FitsEndpoint e
   pub port : 1 ≤ e.port
 
+-- the first so many bits of addresses of IPv4 (RFC 4632, section 3.1)
+abbrev pub prefix_text : List ℕ → ℕ → List ℕ
+prefix_text octets len = dotted octets ++ codes "/" ++ decimal len
+
 -- ---- how it is read, from left to right
 
 -- what stands before and after the first such octet
@@ -58,6 +62,9 @@ dot = 46
 
 abbrev pub colon : ℕ
 colon = 58
+
+abbrev pub slash : ℕ
+slash = 47
 
 abbrev pub open_bracket : ℕ
 open_bracket = 91
@@ -75,6 +82,14 @@ v4_from s = do
   y ← number_from 0 255 c.0
   z ← number_from 0 255 c.1
   Some (w ∷ x ∷ y ∷ z ∷ [])
+
+-- the octets and the length whose text this is: `law_prefix_texts` ties it to `prefix_text`
+abbrev pub prefix_from : List ℕ → Option (List ℕ × ℕ)
+prefix_from s = do
+  p ← cut slash s
+  octets ← v4_from p.0
+  len ← number_from 0 32 p.1
+  Some (octets, len)
 
 -- the value of a digit; letters are lower case
 abbrev pub nibble : ℕ → Option ℕ

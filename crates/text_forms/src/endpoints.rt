@@ -39,6 +39,17 @@ fn v4_from(text: &[u8]) -> Option<[u8; 4]>
     Some([first, second, third, fourth])
 }
 
+/// The octets and the length of a prefix of IPv4 addresses that a text spells: four decimal numbers with dots, a slash, and a
+/// number of 0 to 32. Any other text is none.
+pub fn prefix_from(text: &[u8]) -> Option<([u8; 4], u8)>
+    ensures { result ≡ spec.prefix_from text.now }
+{
+    let (host, digits) = cut(b'/', text)?;
+    let octets = v4_from(host)?;
+    let len = number_from(0, 32, digits)?;
+    Some((octets, len as u8))
+}
+
 /// The value of a hexadecimal digit in lower case.
 fn nibble(digit: u8) -> Option<u8>
     ensures { result ≡ spec.nibble digit }

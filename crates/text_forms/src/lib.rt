@@ -7,8 +7,8 @@ mod names;
 mod numbers;
 mod writing;
 
-pub use endpoints::endpoint_from;
-pub use laws::{law_endpoint_texts, law_number_texts};
+pub use endpoints::{endpoint_from, prefix_from};
+pub use laws::{law_endpoint_texts, law_number_texts, law_prefix_texts};
 pub use names::Name;
 pub use numbers::number_from;
 pub use writing::{ENDPOINT_TEXT_MAX, write_endpoint};
@@ -57,6 +57,30 @@ mod tests {
         ];
         for text in texts {
             assert_eq!(rt; endpoint_from(text), None);
+        }
+    }
+
+    #[test]
+    fn a_prefix_has_one_spelling(rt: HostRuntime) {
+        assert_eq!(rt;
+            prefix_from(b"198.51.100.0/24"),
+            Some(([198, 51, 100, 0], 24))
+        );
+        assert_eq!(rt; prefix_from(b"0.0.0.0/0"), Some(([0; 4], 0)));
+        assert_eq!(rt; prefix_from(b"255.255.255.255/32"), Some(([255; 4], 32)));
+        let texts: [&[u8]; 9] = [
+            b"",
+            b"198.51.100.0",
+            b"198.51.100.0/",
+            b"198.51.100.0/33",
+            b"198.51.100.0/08",
+            b"198.51.100.0/24 ",
+            b"01.2.3.4/8",
+            b"1.2.3/8",
+            b"198.51.100.0:24",
+        ];
+        for text in texts {
+            assert_eq!(rt; prefix_from(text), None);
         }
     }
 

@@ -34,7 +34,7 @@ returns g c = λ first base p.
     let same = whole c.args.posts.len mid (drop (length mid) c.args.posts.items) n in
     let many : c.args.posts.len ≡ length c.args.posts.items = search rules in
     let within : IsWithinLimits (size_of t) = t.limits in
-    has_served v g.D.Desk.shown t conf c.args.room.now c.args.ports.now c.run_all-tally.new.ports c.args.desk.now c.run_all-tally.new.desk c.args.posts.items mid
+    has_served v g.D.Desk.shown g.D.Desk.goes t conf c.args.room.now c.args.ports.now c.run_all-tally.new.ports c.args.desk.now c.run_all-tally.new.desk c.args.posts.items mid
     c.args.book.now c.run_all-tally.new.book c.join_all.new.book _
     c.law_joined_history.ensures within c.law_fits.ensures c.requires.fresh (c.requires.ports ∙ many) worked c.run_all-tally.ensures.desk
     (λ first' base' q. subst (λ (xs : List (Post _)). Phase t first' base' c.join_all.new.book 0 (lists_of xs)) same

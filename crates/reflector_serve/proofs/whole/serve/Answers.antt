@@ -28,4 +28,4 @@ pub returns-clause-served : goal.returns-clause-served
 returns-clause-served g c =
     let v = g.P.Port.shown in
     let w = g.D.Desk.shown in
-    wide_ok v w c.args.conf.now c.args.ports.now c.split_at_mut-serving.result.0.now c.serve_at.new.ports c.split_at_mut-serving.result.1.now c.args.desk.now c.serve_at.new.desk c.serve_at.result c.split_at_mut-serving.ensures.value c.serve_at.ensures.served
+    wide_ok v w g.D.Desk.goes c.args.conf.now c.args.ports.now c.split_at_mut-serving.result.0.now c.serve_at.new.ports c.split_at_mut-serving.result.1.now c.args.desk.now c.serve_at.new.desk c.serve_at.result c.split_at_mut-serving.ensures.value c.serve_at.ensures.served

@@ -61,6 +61,9 @@ returns-clause-served g c =
     let log : Grows (g.D.Desk.shown c.args.desk.now).log (g.D.Desk.shown c.open.new.self).log (opened f.control f.operator ∷ []) =
     subst (λ (x : Option Endpoint). Grows (g.D.Desk.shown c.args.desk.now).log (g.D.Desk.shown c.open.new.self).log (opened x f.operator ∷ [])) c.control.ensures.value
     (subst (λ (x : Option Endpoint). Grows (g.D.Desk.shown c.args.desk.now).log (g.D.Desk.shown c.open.new.self).log (opened c.control.result x ∷ [])) c.operator.ensures o.log) in
-    whole_served v w t f c.in-Ok-make.room moment c.args.ports.now c.read_first-moment.new.ports c.open_ports.new.ports c.serve_split.new.ports c.args.desk.now c.open.new.self c.serve_split.new.desk c.in-Ok.book b c.split_all.new.book c.serve_split.new.book c.serve_split.result
+    let opens : g.D.Desk.goes c.args.desk.now (opened f.control f.operator) c.open.new.self =
+    subst (λ (x : Option Endpoint). g.D.Desk.goes c.args.desk.now (opened x f.operator) c.open.new.self) c.control.ensures.value
+    (subst (λ (x : Option Endpoint). g.D.Desk.goes c.args.desk.now (opened c.control.result x) c.open.new.self) c.operator.ensures o.goes) in
+    whole_served v w g.D.Desk.goes t f c.in-Ok-make.room moment c.args.ports.now c.read_first-moment.new.ports c.open_ports.new.ports c.serve_split.new.ports c.args.desk.now c.open.new.self c.serve_split.new.desk c.in-Ok.book b c.split_all.new.book c.serve_split.new.book c.serve_split.result
     c.in-Ok.ensures.size c.in-Ok.ensures.new c.open_sessions.ensures.opens c.open_sessions.ensures.opened c.law_fits.ensures c.law_rows_stay.ensures splits c.in-Ok-make.ensures c.read_first-moment.ensures each c.requires
-    (record { log = log; made = o.made; still = o.still }) (c.serve_split.ensures (steps_of b) (steps_of b) phase)
+    (record { log = log; opens = opens; made = o.made; still = o.still }) (c.serve_split.ensures (steps_of b) (steps_of b) phase)
