@@ -44,10 +44,10 @@ set_back sets.RowsFull = refl
 set_back sets.NoKey = refl
 set_back sets.NoSuch = refl
 
-cause_from : ℕ → UnsentCause
+pub cause_from : ℕ → UnsentCause
 cause_from n = cond (eqb n 1) causes.NoSession (cond (eqb n 2) causes.Short (cond (eqb n 3) causes.BadHmac causes.NoReply))
 
-cause_back : (a : UnsentCause) → cause_from (unsent_code a) ≡ a
+pub cause_back : (a : UnsentCause) → cause_from (unsent_code a) ≡ a
 unfolding cause_from
 cause_back causes.NoSession = refl
 cause_back causes.Short = refl
@@ -161,7 +161,7 @@ short_body (Left offset) f = omega arith
 
 -- ---- frames
 
-framed_one : (t u : ℕ) (a b x y : List ℕ) → length a < 2 ^ 32 → length b < 2 ^ 32 → framed t a ++ x ≡ framed u b ++ y → (t ≡ u) × (a ≡ b) × (x ≡ y)
+pub framed_one : (t u : ℕ) (a b x y : List ℕ) → length a < 2 ^ 32 → length b < 2 ^ 32 → framed t a ++ x ≡ framed u b ++ y → (t ≡ u) × (a ≡ b) × (x ≡ y)
 framed_one t u a b x y la lb e =
     let tag : t ≡ u = ap (λ (l : List ℕ). get_or l 0 0) e in
     let rest : to_be_bytes w32 (length a) ++ (a ++ x) ≡ to_be_bytes w32 (length b) ++ (b ++ y) =

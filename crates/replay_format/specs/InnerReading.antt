@@ -1,4 +1,4 @@
--- Records are read from left to right: each part gives its value and the octets after it. Only functions and proofs
+-- Records are read from left to right: each part gives its value and the octets after it. But for `ttl_at`, only functions and proofs
 -- inside this crate cite these words; what a caller is told is in View.antt.
 use Rattle.std.specs.Prelude.{ℕ, zero, suc, ◌+◌, ◌-◌, ◌*◌, ◌/◌, ◌%◌, Bool, ◌&&◌, not, ◌==◌, nat_le, if◌then◌else◌, List, [], ◌∷◌, ◌++◌, Option, Some, None, Result, Ok, Err}
 use Rattle.std.specs.List.{list_any}

@@ -23,6 +23,7 @@ pub fn body_len_at(octets: &[u8]) -> Result<(u32, &[u8]), Unread>
     ))
 }
 
+/// A TTL, which may be told or not: whether it is, and the TTL, which is 0 where it isn't.
 #[tactic(auto, unfolding(crate::specs::InnerReading::ttl_at))]
 pub fn ttl_at(octets: &[u8]) -> Result<(Option<u8>, &[u8]), Unread>
     ensures { Gives (λ x. (x.0, x.1.now)) result (ttl_at octets.now) }

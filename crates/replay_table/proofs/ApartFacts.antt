@@ -34,7 +34,7 @@ apart-push (f ∷ es) e apart none =
     let n = neither (excludes f.key e.key) (list_any (λ (g : Entry). excludes g.key e.key) es) none in
     (none-push (λ (g : Entry). excludes f.key g.key) es e apart.0 n.0, apart-push es e apart.1 n.1)
 
-none_excludes : (k : Key) (es : List Entry) → is_bound k es ≡ false → has_clash k es ≡ false → list_any (λ f. excludes f.key k) es ≡ false
+pub none_excludes : (k : Key) (es : List Entry) → is_bound k es ≡ false → has_clash k es ≡ false → list_any (λ f. excludes f.key k) es ≡ false
 unfolding excludes
 none_excludes k [] bound clash = refl
 none_excludes k (e ∷ es) bound clash =
@@ -60,7 +60,7 @@ opened opens.NoKey t o e apart = apart
 
 -- ---- a session is changed, and keeps its key
 
-abbrev KeepsKey : (Entry → Entry) → Type 0
+abbrev pub KeepsKey : (Entry → Entry) → Type 0
 KeepsKey f = (e : Entry) → (f e).key ≡ e.key
 
 same-update : (p : Key → Bool) (k : Key) (f : Entry → Entry) (es : List Entry) → KeepsKey f → list_any (λ e. p e.key) (update k f es) ≡ list_any (λ e. p e.key) es
@@ -71,7 +71,7 @@ same-update p k f (e ∷ es) keeps =
       | false ↦ rw (same-update p k f es keeps) refl
     ]
 
-apart-update : (k : Key) (f : Entry → Entry) (es : List Entry) → KeepsKey f → AreApart es → AreApart (update k f es)
+pub apart-update : (k : Key) (f : Entry → Entry) (es : List Entry) → KeepsKey f → AreApart es → AreApart (update k f es)
 apart-update k f [] keeps apart = tt
 apart-update k f (e ∷ es) keeps apart =
     elim (same_key e.key k) as (λ b. AreApart (if b then f e ∷ es else e ∷ update k f es)) [
@@ -114,7 +114,7 @@ apart-without k (e ∷ es) apart =
 
 -- ---- each record, and all
 
-one : (t : Table) (i : Item) → AreApart t.sessions → AreApart (after t i).sessions
+pub one : (t : Table) (i : Item) → AreApart t.sessions → AreApart (after t i).sessions
 unfolding after
 one t (Opens o) apart = opened (open_answer t o) t o refl apart
 one t (Sets s) apart = was_set (set_answer t s) t s apart

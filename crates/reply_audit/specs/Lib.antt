@@ -1,0 +1,10 @@
+pub mod Claims
+pub mod Looks
+pub mod Holding
+pub mod Events
+pub mod Turns
+pub mod Fronts
+pub mod View
+pub mod Weighing
+pub mod Reading
+pub mod Written
