@@ -8,7 +8,7 @@ use Rattle.conf_text.specs.Faults.{Fault}
 use Rattle.conf_text.specs.File.{File, file_in}
 use Rattle.conf_check.specs.Lines.{accepted_line, fault_line, failed_line, too_long_line}
 use Rattle.conf_check.specs.Loading.{file_limit, IsTooLong, IsAccepted, IsFaulty}
-use Rattle.conf_check.specs.Writing.{WritesLine}
+use Rattle.conf_check.specs.Writing.{WritesLine, WritesNothing}
 
 -- 0: the file is accepted, and its line was written
 abbrev pub WasAccepted : Option (List port.File) → List ℕ → SinkShown → SinkShown → Type 0
@@ -35,3 +35,17 @@ read_status (Err fault) = 3
 
 abbrev pub content_status : List ℕ → ℕ
 content_status text = if nat_lt file_limit (length text) then 5 else read_status (file_in text)
+
+-- how a check ends, with its status
+abbrev pub CheckEnds : Option (List port.File) → List ℕ → ℕ → ℕ → SinkShown → SinkShown → ℕ → Type 0
+CheckEnds files name failed failed' old new status =
+    ((status ≡ 0) × WasAccepted files name old new × (new.faults ≡ old.faults) × (failed' ≡ failed))
+    ⊎ ((status ≡ 3) × WasFaulty files name old new × (failed' ≡ failed))
+    ⊎ ((status ≡ 4) × WritesNothing old new × (failed' ≡ failed))
+    ⊎ ((status ≡ 5) × WasNotLoaded files name failed failed' old new)
+    ⊎ ((status ≡ 8) × WasCutShort files name old new × Rises old.faults new.faults × (failed' ≡ failed))
+
+-- a file was checked, with this status, and no file changed
+pub record Checked (files files' : Option (List port.File)) (failed failed' : ℕ) (name : List ℕ) (old new : SinkShown) (status : ℕ) : Type 0 where
+  pub ends : CheckEnds files name failed failed' old new status
+  pub kept : files' ≡ files

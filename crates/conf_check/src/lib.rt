@@ -2,11 +2,13 @@
 #![tactic(auto)]
 
 mod checking;
+mod laws;
 mod lines;
 mod loading;
 mod writing;
 
 pub use checking::check_file;
+pub use laws::law_content_decides;
 pub use loading::{Refusal, load_conf};
 pub use writing::{write_line, write_refusal};
 

@@ -1,12 +1,14 @@
 -- What shows why a run ended as it did: a port's count of failures has risen, the desk's has, or a budget was spent.
-use Rattle.std.proofs.Common.{◌≡◌, ◌⊎◌, ℕ, Bool, true, false, List, [], ◌∷◌, inl, inr, refl, sym, subst, ◌∙◌, arith}
+use Rattle.std.proofs.Common.{◌≡◌, ◌⊎◌, ℕ, Bool, true, false, List, [], ◌∷◌, inl, inr, refl, arith}
 use Rattle.std.specs.List.{list_any}
 use Rattle.session_world.specs.Desk.{config_at}
 use Rattle.session_desk.specs.Book.{steps_of}
+use Rattle.port_io.specs.Outside.{Rises, AppendsPart}
 use Rattle.port_io.specs.SinkShown.{SinkShown}
 use Rattle.net_io.specs.Port.{read}
 use Rattle.net_io.specs.Desk.{DeskEntry}
 use Rattle.conf_text.specs.File.{File}
+use Rattle.conf_check.specs.Writing.{WritesNothing}
 use Rattle.control_desk.specs.declared.counts.DeskEnd.{DeskEnd}
 use Rattle.control_desk.specs.declared.counts.DeskEnd.TheVariants as desk
 use Rattle.reflector_serve.specs.Ports.{PortView}
@@ -14,24 +16,10 @@ use Rattle.reflector_serve.specs.declared.report.Report.{Report}
 use Rattle.reflector_serve.specs.Served.{DeskView, Served}
 use Rattle.file_service.specs.declared.ends.RunEnd.{RunEnd}
 use Rattle.file_service.specs.declared.ends.RunEnd.TheVariants.{Done, PortFailed, DeskFailed, BudgetSpent}
-use Rattle.file_service.specs.Ends.{is_port_fault, is_spent, end_by, run_end, TellsEnd}
-use Rattle.file_service.specs.Service.{HasRisen, OneHasFailed, WritesReport, HasServed, HasClosedDesk, NothingFails}
+use Rattle.file_service.specs.Ends.{is_port_fault, is_spent, end_by, run_end, report_text, TellsEnd}
+use Rattle.file_service.specs.Service.{HasRisen, OneHasFailed, WritesReport, HasClosedDesk, ServeEnds}
 use Rattle.file_service.proofs.PortFaults.{port_failed, risen}
 use Rattle.file_service.proofs.DeskFaults.{desk_failed}
-
--- ---- which end a status tells
-
-told_port : (k : RunEnd) (old new : SinkShown) → TellsEnd k 9 old new → k ≡ PortFailed
-told_port Done old new h = let e = h.0 in absurd (omega (arith, e))
-told_port PortFailed old new h = refl
-told_port DeskFailed old new h = let e = h.0 in absurd (omega (arith, e))
-told_port BudgetSpent old new h = let e = h.0 in absurd (omega (arith, e))
-
-told_desk : (k : RunEnd) (old new : SinkShown) → TellsEnd k 10 old new → k ≡ DeskFailed
-told_desk Done old new h = let e = h.0 in absurd (omega (arith, e))
-told_desk PortFailed old new h = let e = h.0 in absurd (omega (arith, e))
-told_desk DeskFailed old new h = refl
-told_desk BudgetSpent old new h = let e = h.0 in absurd (omega (arith, e))
 
 -- ---- what an end comes from
 
@@ -71,30 +59,20 @@ module _ {P S D T : Type 0} (v : PortView P S) (w : DeskView D T) (goes : D → 
       omega (arith, desk_failed w goes s.table f d e s.at_split s.at_end r.desk s.desk fault)
 
   module _ (old new : SinkShown) where
-    -- where a run ended with 9, a port's count of failures has risen
-    pub run_failed : HasServed v w goes f ps qs d e 9 old new → OneHasFailed v ps qs
-    run_failed h = port_end h.0 h.1 (told_port (run_end h.0) h.2.reported new h.2.end)
-
-    -- where it ended with 10, the desk's has
-    pub desk_run_failed : HasServed v w goes f ps qs d e 10 old new → HasRisen (w d).faults (w e).faults
-    desk_run_failed h = desk_end h.0 h.1 (told_desk (run_end h.0) h.2.reported new h.2.end)
-
     pub desk_opening_failed : HasClosedDesk v w ps qs d e old new → HasRisen (w d).faults (w e).faults
     desk_opening_failed h = risen (w d).faults (w e).faults h.desk.faults
 
-    -- where nothing failed, a report ends with 0 or 11
-    pub none_failed : (r : Report) (status : ℕ) → Served v w goes f ps qs d e r → WritesReport r status old new → NothingFails v w ps qs d e old new → (status ≡ 0) ⊎ (status ≡ 4) ⊎ (status ≡ 11)
-    none_failed r status s h none = by (run_end r) refl h.end
+    -- what was served ends as its report is told
+    pub served_ends : (r : Report) (status : ℕ) → Served v w goes f ps qs d e r
+        → (status ≡ 4 → WritesNothing old new)
+        → (status ≡ 8 → AppendsPart old.written new.written (report_text r) × Rises old.faults new.faults)
+        → (status ≡ 4) ⊎ (status ≡ 8) ⊎ WritesReport r status old new → ServeEnds v w goes f ps qs d e old new status
+    served_ends r status s memory lost (inl four) = inr (inl (four, memory four, inr (r, s)))
+    served_ends r status s memory lost (inr (inl eight)) = let l = lost eight in inr (inr (inl (eight, (r, s, l.0, l.1))))
+    served_ends r status s memory lost (inr (inr h)) = by (run_end r) refl h.end
       where
-        by : (k : RunEnd) → run_end r ≡ k → TellsEnd k status h.reported new → (status ≡ 0) ⊎ (status ≡ 4) ⊎ (status ≡ 11)
-        by Done end told = inl told.0
-        by PortFailed end told = absurd (none.ports (port_end r s end))
-        by DeskFailed end told = absurd (none.desk_calls (desk_end r s end))
-        by BudgetSpent end told = inr (inr told.0)
-
-    -- a report that was written with a status of its end
-    pub served_with : (r : Report) (n status : ℕ) → status ≡ n → (n ≡ 4 → ⊥) → (n ≡ 8 → ⊥) → Served v w goes f ps qs d e r
-        → (status ≡ 4) ⊎ (status ≡ 8) ⊎ WritesReport r status old new → HasServed v w goes f ps qs d e n old new
-    served_with r n status same four eight s (inl h) = absurd (four (sym same ∙ h))
-    served_with r n status same four eight s (inr (inl h)) = absurd (eight (sym same ∙ h))
-    served_with r n status same four eight s (inr (inr h)) = (r, s, subst (λ (x : ℕ). WritesReport r x old new) same h)
+        by : (k : RunEnd) → run_end r ≡ k → TellsEnd k status h.reported new → ServeEnds v w goes f ps qs d e old new status
+        by Done end told = inl (told.0, (r, s, h))
+        by PortFailed end told = inr (inr (inr (inl (told.0, inr (r, s, h), port_end r s end))))
+        by DeskFailed end told = inr (inr (inr (inr (inl (told.0, inr (r, s, h), desk_end r s end)))))
+        by BudgetSpent end told = inr (inr (inr (inr (inr (told.0, (r, s, h))))))

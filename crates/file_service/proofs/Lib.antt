@@ -1,3 +1,4 @@
 pub mod Causes
 pub mod DeskFaults
 pub mod PortFaults
+pub mod Decides

@@ -2,9 +2,11 @@
 #![tactic(auto)]
 
 mod ends;
+mod laws;
 mod service;
 #[cfg(test)]
 mod tests;
 
 pub use ends::RunEnd;
+pub use laws::law_run_decides;
 pub use service::run_file;

@@ -1,17 +1,13 @@
 //! Serving by the name of a file.
 
-ghost use Rattle.std.specs.Prelude.{ℕ, ◌≡◌, ◌≢◌, ◌⊎◌, ◌<◌, ◌≤◌, List, length, codes, Some, Ok, Err, IfOk};
+ghost use Rattle.std.specs.Prelude.{◌≡◌, ◌⊎◌, ◌≤◌, length, codes, IfOk, IfErr};
 ghost use Rattle.port_io.specs.Outside.{Rises, AppendsPart};
 ghost use Rattle.conf_text.specs.Faults.{Limit};
-ghost use Rattle.port_io.specs.Files as port;
-ghost use Rattle.port_io.specs.Files.{content};
-ghost use Rattle.conf_text.specs.File.{File, file_in};
 ghost use Rattle.conf_check.specs.Lines.{fault_line};
-ghost use Rattle.conf_check.specs.Loading.{file_limit, IsAccepted};
+ghost use Rattle.conf_check.specs.Loading.{IsAccepted};
 ghost use Rattle.conf_check.specs.Writing.{WritesLine, WritesNothing};
-ghost use Rattle.conf_check.specs.Checking.{WasFaulty, WasNotLoaded, content_status};
 ghost use Rattle.file_service.specs.Ends as spec;
-ghost use Rattle.file_service.specs.Service.{WritesReport, HasServed, HasLostReport, HasNoReport, HasClosedPort, HasClosedDesk, HasTooFewPorts, OfFile, HasRisen, OneHasFailed, NothingFails};
+ghost use Rattle.file_service.specs.Service.{Ran, ServeEnds, WasNotTaken, WritesReport};
 
 use crate::ends::{RunEnd, run_end, tell_end};
 use conf_check::{Refusal, load_conf, write_refusal};
@@ -30,13 +26,8 @@ fn open_conf<F: Files, K: Sink>(
     files: &mut F,
     out: &mut K,
 ) -> Result<Conf, u8>
-    ensures accepted { IfOk result (λ f. IsAccepted (F.files files.old) name.now f) }
-    ensures quiet { IfOk result (λ _. (out.new ≡ out.old) × (F.faults files.new ≡ F.faults files.old)) }
-    ensures statuses { (s : ℕ) → result ≡ Err s → (s ≡ 3) ⊎ (s ≡ 4) ⊎ (s ≡ 5) }
-    ensures faulty { result ≡ Err 3 → WasFaulty (F.files files.old) name.now (K.shown out.old) (K.shown out.new) }
-    ensures memory { result ≡ Err 4 → WritesNothing (K.shown out.old) (K.shown out.new) }
-    ensures not_loaded { result ≡ Err 5 → WasNotLoaded (F.files files.old) name.now (F.faults files.old) (F.faults files.new) (K.shown out.old) (K.shown out.new) }
-    ensures no_load_fault { result ≢ Err 5 → F.faults files.new ≡ F.faults files.old }
+    ensures accepted { IfOk result (λ f. IsAccepted (F.files files.old) name.now f × (out.new ≡ out.old) × (F.faults files.new ≡ F.faults files.old)) }
+    ensures refused { IfErr result (WasNotTaken (F.files files.old) name.now (F.faults files.old) (F.faults files.new) (K.shown out.old) (K.shown out.new)) }
     ensures kept { F.files files.new ≡ F.files files.old }
 {
     match load_conf(alloc, files, name) {
@@ -82,16 +73,7 @@ fn serve_conf<R: Threads + Sync, K: Sink, P: Port + Send, D: Desk>(
     desk: &mut D,
 ) -> u8
     requires { conf.now.workers ≤ length ports.old }
-    ensures statuses { (result ≡ 0) ⊎ (result ≡ 4) ⊎ (result ≡ 8) ⊎ (result ≡ 9) ⊎ (result ≡ 10) ⊎ (result ≡ 11) }
-    ensures done { result ≡ 0 → HasServed P.shown D.shown D.goes conf.now ports.old ports.new desk.old desk.new 0 (K.shown out.old) (K.shown out.new) }
-    ensures memory { result ≡ 4 → WritesNothing (K.shown out.old) (K.shown out.new) × (((ports.new ≡ ports.old) × (desk.new ≡ desk.old)) ⊎ HasNoReport P.shown D.shown D.goes conf.now ports.old ports.new desk.old desk.new) }
-    ensures lost { result ≡ 8 → HasLostReport P.shown D.shown D.goes conf.now ports.old ports.new desk.old desk.new (K.shown out.old) (K.shown out.new) }
-    ensures port_failed { result ≡ 9 → HasClosedPort P.shown ports.old ports.new desk.old desk.new (K.shown out.old) (K.shown out.new) ⊎ HasServed P.shown D.shown D.goes conf.now ports.old ports.new desk.old desk.new 9 (K.shown out.old) (K.shown out.new) }
-    ensures desk_failed { result ≡ 10 → HasClosedDesk P.shown D.shown ports.old ports.new desk.old desk.new (K.shown out.old) (K.shown out.new) ⊎ HasServed P.shown D.shown D.goes conf.now ports.old ports.new desk.old desk.new 10 (K.shown out.old) (K.shown out.new) }
-    ensures budget_spent { result ≡ 11 → HasServed P.shown D.shown D.goes conf.now ports.old ports.new desk.old desk.new 11 (K.shown out.old) (K.shown out.new) }
-    ensures port_cause { result ≡ 9 → OneHasFailed P.shown ports.old ports.new }
-    ensures desk_cause { result ≡ 10 → HasRisen (D.shown desk.old).faults (D.shown desk.new).faults }
-    ensures complete { NothingFails P.shown D.shown ports.old ports.new desk.old desk.new (K.shown out.old) (K.shown out.new) → (result ≡ 0) ⊎ (result ≡ 4) ⊎ (result ≡ 11) }
+    ensures ends { ServeEnds P.shown D.shown D.goes conf.now ports.old ports.new desk.old desk.new (K.shown out.old) (K.shown out.new) result }
 {
     match serve(rt, alloc, conf, ports, desk) {
         Ok(report) => tell_report(alloc, &report, out),
@@ -115,36 +97,8 @@ pub fn run_file<R: Threads + Sync, K: Sink, F: Files, P: Port + Send, D: Desk>(
     ports: &mut [P],
     desk: &mut D,
 ) -> u8
-    ensures statuses { (result ≡ 0) ⊎ (result ≡ 3) ⊎ (result ≡ 4) ⊎ (result ≡ 5) ⊎ (result ≡ 8) ⊎ (result ≡ 9) ⊎ (result ≡ 10) ⊎ (result ≡ 11) }
-    ensures kept { F.files files.new ≡ F.files files.old }
-    ensures no_load_fault { result ≢ 5 → F.faults files.new ≡ F.faults files.old }
-
-    // Nothing was served: the file's text has a fault, or it has more workers than there are ports, or it wasn't loaded.
-    ensures faulty { result ≡ 3 → WasFaulty (F.files files.old) name.now (K.shown out.old) (K.shown out.new)
-        ⊎ ((f : File) × IsAccepted (F.files files.old) name.now f × HasTooFewPorts f (length ports.old) (K.shown out.old) (K.shown out.new)) }
-    ensures not_loaded { result ≡ 5 → WasNotLoaded (F.files files.old) name.now (F.faults files.old) (F.faults files.new) (K.shown out.old) (K.shown out.new) }
-    ensures untouched { (result ≡ 3) ⊎ (result ≡ 5) → (ports.new ≡ ports.old) × (desk.new ≡ desk.old) }
-    ensures memory { result ≡ 4 → WritesNothing (K.shown out.old) (K.shown out.new) }
-    ensures memory_served { result ≡ 4 → ((ports.new ≡ ports.old) × (desk.new ≡ desk.old)) ⊎ OfFile (F.files files.old) name.now ports.old (λ f. HasNoReport P.shown D.shown D.goes f ports.old ports.new desk.old desk.new) }
-
-    // The file was served, and its report written.
-    ensures done { result ≡ 0 → OfFile (F.files files.old) name.now ports.old (λ f. HasServed P.shown D.shown D.goes f ports.old ports.new desk.old desk.new 0 (K.shown out.old) (K.shown out.new)) }
-    ensures lost { result ≡ 8 → OfFile (F.files files.old) name.now ports.old (λ f. HasLostReport P.shown D.shown D.goes f ports.old ports.new desk.old desk.new (K.shown out.old) (K.shown out.new)) }
-    ensures port_failed { result ≡ 9 → OfFile (F.files files.old) name.now ports.old (λ f. HasClosedPort P.shown ports.old ports.new desk.old desk.new (K.shown out.old) (K.shown out.new) ⊎ HasServed P.shown D.shown D.goes f ports.old ports.new desk.old desk.new 9 (K.shown out.old) (K.shown out.new)) }
-    ensures desk_failed { result ≡ 10 → OfFile (F.files files.old) name.now ports.old (λ f. HasClosedDesk P.shown D.shown ports.old ports.new desk.old desk.new (K.shown out.old) (K.shown out.new) ⊎ HasServed P.shown D.shown D.goes f ports.old ports.new desk.old desk.new 10 (K.shown out.old) (K.shown out.new)) }
-    ensures budget_spent { result ≡ 11 → OfFile (F.files files.old) name.now ports.old (λ f. HasServed P.shown D.shown D.goes f ports.old ports.new desk.old desk.new 11 (K.shown out.old) (K.shown out.new)) }
-    ensures port_cause { result ≡ 9 → OneHasFailed P.shown ports.old ports.new }
-    ensures desk_cause { result ≡ 10 → HasRisen (D.shown desk.old).faults (D.shown desk.new).faults }
-
-    // Where no load fails, the content decides whether it is served; and what is served ends with 0 where nothing else fails,
-    // or with 11 where a budget is spent. Memory alone is free.
-    ensures refused { (fs : List port.File) (text : List ℕ) → F.files files.old ≡ Some fs → content name.now fs ≡ Some text → (Rises (F.faults files.old) (F.faults files.new) → ⊥)
-        → (content_status text ≡ 0 → ⊥) → (result ≡ content_status text) ⊎ (result ≡ 4) }
-    ensures crowded { (fs : List port.File) (text : List ℕ) (f : File) → F.files files.old ≡ Some fs → content name.now fs ≡ Some text → (Rises (F.faults files.old) (F.faults files.new) → ⊥)
-        → length text ≤ file_limit → file_in text ≡ Ok f → length ports.old < f.workers → (result ≡ 3) ⊎ (result ≡ 4) }
-    ensures complete { (fs : List port.File) (text : List ℕ) (f : File) → F.files files.old ≡ Some fs → content name.now fs ≡ Some text → (Rises (F.faults files.old) (F.faults files.new) → ⊥)
-        → length text ≤ file_limit → file_in text ≡ Ok f → f.workers ≤ length ports.old
-        → NothingFails P.shown D.shown ports.old ports.new desk.old desk.new (K.shown out.old) (K.shown out.new) → (result ≡ 0) ⊎ (result ≡ 4) ⊎ (result ≡ 11) }
+    ensures ran { Ran P.shown D.shown D.goes (F.files files.old) (F.files files.new) (F.faults files.old) (F.faults files.new) name.now
+        ports.old ports.new desk.old desk.new (K.shown out.old) (K.shown out.new) result }
 {
     let conf = match open_conf(alloc, name, files, out) {
         Ok(conf) => conf,

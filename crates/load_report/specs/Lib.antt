@@ -1,3 +1,4 @@
 pub mod Kinds
 pub mod Counting
 pub mod Report
+pub mod Decides

@@ -1,5 +1,8 @@
 -- What is told of a load (this project's own).
-use Rattle.std.specs.Prelude.{ℕ, List, [], ◌∷◌, ◌++◌, codes, decimal}
+use Rattle.std.specs.Prelude.{ℕ, ◌≡◌, ◌⊎◌, List, [], ◌∷◌, ◌++◌, codes, decimal}
+use Rattle.std.specs.Io.KnownBytes.{Appends, Keeps}
+use Rattle.port_io.specs.Outside.{Rises, AppendsPart}
+use Rattle.port_io.specs.SinkShown.{SinkShown}
 use Rattle.load_report.specs.declared.counting.Counts.{Counts}
 use Rattle.load_report.specs.Counting.{counts_of}
 
@@ -22,3 +25,11 @@ lines_of count c =
 -- the lines of the load of a seed with so many datagrams
 unfoldable pub report : ℕ → ℕ → List ℕ
 report seed count = lines_of count (counts_of seed count)
+
+-- The lines of a load were written, with this status: 0 with all of them, 4 with nothing, for want of memory, and 8 with a
+-- part of them, from the front on and not all, since a write failed.
+abbrev pub Generated : ℕ → ℕ → SinkShown → SinkShown → ℕ → Type 0
+Generated seed count old new status =
+    ((status ≡ 0) × Appends old.written new.written (report seed count) × (new.faults ≡ old.faults))
+    ⊎ ((status ≡ 4) × Keeps old.written new.written × (new.faults ≡ old.faults))
+    ⊎ ((status ≡ 8) × AppendsPart old.written new.written (report seed count) × Rises old.faults new.faults)

@@ -2,10 +2,12 @@
 #![tactic(auto)]
 
 mod counting;
+mod laws;
 mod lines;
 mod replaying;
 mod reporting;
 
+pub use laws::law_load_decides;
 pub use reporting::{COUNT_LIMIT, report_load};
 
 #[cfg(test)]

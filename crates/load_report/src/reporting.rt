@@ -1,9 +1,7 @@
 //! The report of a load.
 
-ghost use Rattle.std.specs.Prelude.{◌≡◌, ◌⊎◌, ◌≤◌, IfOk, string_bytes};
-ghost use Rattle.std.specs.Io.KnownBytes.{Appends, Keeps};
-ghost use Rattle.port_io.specs.Outside.{Rises, AppendsPart};
-ghost use Rattle.load_report.specs.Report.{report, count_limit};
+ghost use Rattle.std.specs.Prelude.{◌≡◌, ◌≤◌, IfOk, string_bytes};
+ghost use Rattle.load_report.specs.Report.{Generated, report, count_limit};
 
 use crate::lines::lines_of;
 use crate::replaying::count_answers;
@@ -32,12 +30,7 @@ fn report_text(alloc: Global, seed: u64, count: u32) -> Result<String, Memory>
 /// ends: 0, 4 for want of memory, of which nothing is told, and 8 where a write failed.
 pub fn report_load<K: Sink>(alloc: Global, seed: u64, count: u32, out: &mut K) -> u8
     requires { count ≤ count_limit }
-    ensures statuses { (result ≡ 0) ⊎ (result ≡ 4) ⊎ (result ≡ 8) }
-    ensures done { result ≡ 0 → Appends (K.shown out.old).written (K.shown out.new).written (report seed count) }
-    ensures memory { result ≡ 4 → Keeps (K.shown out.old).written (K.shown out.new).written }
-    ensures cut_short { result ≡ 8 → AppendsPart (K.shown out.old).written (K.shown out.new).written (report seed count) }
-    ensures write_fault { result ≡ 8 → Rises (K.shown out.old).faults (K.shown out.new).faults }
-    ensures no_write_fault { (result ≡ 0) ⊎ (result ≡ 4) → (K.shown out.new).faults ≡ (K.shown out.old).faults }
+    ensures generated { Generated seed count (K.shown out.old) (K.shown out.new) result }
 {
     let Ok(text) = report_text(alloc, seed, count) else {
         return 4;

@@ -1,21 +1,13 @@
 //! A session reflector for STAMP and TWAMP.
 #![tactic(auto)]
 
-mod offline;
-mod outbox;
-mod read_ahead;
-#[cfg(test)]
-mod tests;
-mod top;
-mod words;
-
 use port_io::{DiskFiles, StdSink, StdSource};
+use program::top::stampd;
 use refl_types::Memory;
 use socket_io::{Ends, TcpDesk, UdpPort};
 use std::alloc::Global;
 use std::process::ExitCode;
 use std::{env, io};
-use top::stampd;
 
 /// As many ports as a configuration file may have workers.
 const PORTS: usize = 64;

@@ -1,32 +1,16 @@
-use Rattle.std.proofs.Common.{◌≤◌, length, arith}
+use Rattle.std.proofs.Common.{inl, inr, ◌≤◌, length, refl, arith}
 use Rattle.file_service.proofs.service.run_file.Goals as goal
 
-pub returns-clause-done : goal.returns-clause-done
-returns-clause-done g c = λ is.
-    let q = c.in-Ok.ensures.quiet.0 in
-    let few : c.in-Ok.conf.workers ≤ length c.args.ports.now = omega arith in
-    (c.in-Ok.conf, c.in-Ok.ensures.accepted, few, rw q at (c.serve_conf.ensures.done is))
+pub returns-in-Err : goal.returns-in-Err
+returns-in-Err g c = record { ran = record { ends = inl (c.in-Err.ensures.refused, refl, refl); kept = c.in-Err.ensures.kept } }
 
-pub returns-clause-lost : goal.returns-clause-lost
-returns-clause-lost g c = λ is.
-    let q = c.in-Ok.ensures.quiet.0 in
+pub returns : goal.returns
+returns g c =
+    let taken = c.in-Ok.ensures.accepted in
     let few : c.in-Ok.conf.workers ≤ length c.args.ports.now = omega arith in
-    (c.in-Ok.conf, c.in-Ok.ensures.accepted, few, rw q at (c.serve_conf.ensures.lost is))
-
-pub returns-clause-port_failed : goal.returns-clause-port_failed
-returns-clause-port_failed g c = λ is.
-    let q = c.in-Ok.ensures.quiet.0 in
-    let few : c.in-Ok.conf.workers ≤ length c.args.ports.now = omega arith in
-    (c.in-Ok.conf, c.in-Ok.ensures.accepted, few, rw q at (c.serve_conf.ensures.port_failed is))
-
-pub returns-clause-desk_failed : goal.returns-clause-desk_failed
-returns-clause-desk_failed g c = λ is.
-    let q = c.in-Ok.ensures.quiet.0 in
-    let few : c.in-Ok.conf.workers ≤ length c.args.ports.now = omega arith in
-    (c.in-Ok.conf, c.in-Ok.ensures.accepted, few, rw q at (c.serve_conf.ensures.desk_failed is))
-
-pub returns-clause-budget_spent : goal.returns-clause-budget_spent
-returns-clause-budget_spent g c = λ is.
-    let q = c.in-Ok.ensures.quiet.0 in
-    let few : c.in-Ok.conf.workers ≤ length c.args.ports.now = omega arith in
-    (c.in-Ok.conf, c.in-Ok.ensures.accepted, few, rw q at (c.serve_conf.ensures.budget_spent is))
+    record {
+      ran = record {
+        ends = inr (c.in-Ok.conf, taken.0, taken.2, inr (few, rw taken.1 at c.serve_conf.ensures.ends));
+        kept = c.in-Ok.ensures.kept;
+      };
+    }

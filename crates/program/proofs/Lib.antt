@@ -1,0 +1,4 @@
+pub mod Places
+pub mod Going
+pub mod Decides
+pub mod Spelled

@@ -1,0 +1,12 @@
+//! The program over the objects that it is given.
+#![tactic(auto)]
+
+mod commands;
+pub mod laws;
+pub mod offline;
+mod outbox;
+mod read_ahead;
+#[cfg(test)]
+mod tests;
+pub mod top;
+mod words;

@@ -1,4 +1,0 @@
-pub mod Places
-pub mod Going
-pub mod Commands
-pub mod Loads

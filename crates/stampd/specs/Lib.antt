@@ -1,5 +1,0 @@
-pub mod Buffers
-pub mod Replay
-pub mod Command
-pub mod Answering
-pub mod Taking
