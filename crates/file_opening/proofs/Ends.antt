@@ -1,5 +1,5 @@
 -- Before the first session of the file, and after the last.
-use Rattle.std.proofs.Common.{◌≡◌, inl, ℕ, ◌<◌, ◌≤◌, true, List, [], length, map, take, reverse, get_or, Some, None, Ok, Err, Option, sym, ap, ◌∙◌, subst, arith}
+use Rattle.std.proofs.Common.{◌≡◌, inl, ℕ, ◌<◌, ◌≤◌, true, List, [], length, map, take, reverse, get_or, Some, None, Ok, Err, Option, sym, refl, ap, ◌∙◌, subst, arith}
 use Rattle.std.specs.List.{AllZip, list_any}
 use Rattle.std.proofs.lemmas.List.{take_all, get_or-map, length-map}
 use Rattle.std.proofs.lemmas.List.Folds.{list_any_at}
@@ -22,14 +22,15 @@ use Rattle.session_desk.proofs.Serving.{row_stays, row_given}
 use Rattle.conf_text.specs.declared.sessions.Provided.{Provided}
 use Rattle.conf_text.specs.File.{File}
 use Rattle.conf_text.specs.Rows.{distinct, in_use, session_configs}
-use Rattle.file_opening.specs.Opened.{IsNewBook, IsOpened, HasItsRow, HasOpened, opening_of}
+use Rattle.file_opening.specs.Opening.{IsNewBook, KeepsRow}
+use Rattle.file_opening.specs.Opened.{IsOpened, HasItsRow, HasOpened, opening_of}
 use Rattle.file_opening.specs.OpenedFirst.{AreOnce, HasOpenedFirst}
 use Rattle.file_opening.proofs.RoomFacts.{has_room}
 use Rattle.file_opening.proofs.NextFacts.{all_kept}
 
 pub at_first : (t : Table) (f : File) (moment : ℕ) (b : Book) → IsNewBook t f b → HasOpenedFirst t f moment 0 b
 at_first t f moment b new = record {
-  stands = new.stands;
+  stands = record { book = new.book; schedule = new.schedule };
   slots = new.slots;
   row_limit = ap (λ (r : Rows). r.limit) new.rows;
   live = subst (λ (os : List Session). AllZip (IsOpened b.rows moment) [] os) (sym new.live) tt;
@@ -60,8 +61,8 @@ twamp_used f c e = ap (λ (o : Option ConfigParts). list_any (same_config c) (in
 pub row_kept : (t : Table) (f : File) (moment n : ℕ) (b d : Book) (c : ConfigParts) (fault : RowsFull) → HasOpenedFirst t f moment n b → f.twamp ≡ Some c → length (distinct (in_use f.twamp f.sessions)) ≤ f.rows → Makes t (keeps_row c (Err fault)) b d → ⊥
 row_kept t f moment n b d c fault first is fits m = has_room b.rows c (in_use f.twamp f.sessions) first.once first.used (twamp_used f c is) (let l = first.row_limit in omega (arith, fits, l)) m.0
 
-pub all_opened : (t : Table) (f : File) (moment : ℕ) (a b : Book) → DeskWent t a b → HasOpenedFirst t f moment (length f.sessions) b → f.twamp ≡ None → HasOpened t f moment a b
-all_opened t f moment a b w first none = record {
+all_opened_alone : (t : Table) (f : File) (moment : ℕ) (a b : Book) → DeskWent t a b → HasOpenedFirst t f moment (length f.sessions) b → f.twamp ≡ None → HasOpened t f moment a b
+all_opened_alone t f moment a b w first none = record {
   went = w;
   live = subst (λ (ss : List Provided). AllZip (IsOpened b.rows moment) ss b.live) (take_all (length f.sessions) f.sessions (omega arith)) first.live;
   answers = first.answers;
@@ -70,7 +71,7 @@ all_opened t f moment a b w first none = record {
   twamp = subst (HasItsRow b.rows) (sym none) tt;
 }
 
-pub all_opened_with : (t : Table) (f : File) (moment : ℕ) (a b d : Book) (c : ConfigParts) → DeskWent t a b → HasOpenedFirst t f moment (length f.sessions) b → f.twamp ≡ Some c → Makes t (keeps_row c (Ok tt)) b d → HasOpened t f moment a d
+all_opened_with : (t : Table) (f : File) (moment : ℕ) (a b d : Book) (c : ConfigParts) → DeskWent t a b → HasOpenedFirst t f moment (length f.sessions) b → f.twamp ≡ Some c → Makes t (keeps_row c (Ok tt)) b d → HasOpened t f moment a d
 all_opened_with t f moment a b d c w first is m = let all : f.sessions ≡ take (length f.sessions) f.sessions = sym (take_all (length f.sessions) f.sessions (omega arith)) in
     let w' = went t (keeps_row c (Ok tt)) b d w.stands m in record {
       went = went_both t a b d w w';
@@ -80,3 +81,14 @@ all_opened_with t f moment a b d c w first is m = let all : f.sessions ≡ take 
       keys = m.keys ∙ first.keys ∙ ap (map (λ (s : Provided). s.key)) (sym all);
       twamp = subst (HasItsRow d.rows) (sym is) (m.row, row_given b.rows d.rows c m.row m.made m.kept);
     }
+
+-- all sessions are open, and then twamp was given its row, where the file has it
+pub all_opened : (t : Table) (f : File) (moment n : ℕ) (a b : Book) → DeskWent t a b → HasOpenedFirst t f moment n b → n ≡ length f.sessions → (d : Book) → KeepsRow t f.twamp b d → HasOpened t f moment a d
+all_opened t f moment n a b w first all d kept = either f.twamp refl kept
+  where
+    whole : HasOpenedFirst t f moment (length f.sessions) b
+    whole = subst (λ (m : ℕ). HasOpenedFirst t f moment m b) all first
+
+    either : (o : Option ConfigParts) → f.twamp ≡ o → KeepsRow t o b d → HasOpened t f moment a d
+    either None none k = subst (λ (x : Book). HasOpened t f moment a x) (sym k) (all_opened_alone t f moment a b w whole none)
+    either (Some c) is k = all_opened_with t f moment a b d c w whole is k

@@ -11,8 +11,7 @@ use Rattle.session_desk.proofs.BoolFacts.{true_ne_false, or_l, or_r}
 use Rattle.conf_text.specs.declared.sessions.Provided.{Provided}
 use Rattle.conf_text.specs.File.{File}
 use Rattle.conf_text.specs.Rows.{in_use, session_configs}
-use Rattle.file_opening.specs.Opening.{OpensAll, KeepsRow, OpensFile}
-use Rattle.file_opening.specs.Opened.{IsNewBook}
+use Rattle.file_opening.specs.Opening.{IsNewBook, OpensAll, KeepsRow, OpensFile}
 use Rattle.file_opening.specs.Used.{Among}
 use Rattle.file_opening.proofs.RoomFacts.{used_after}
 use Rattle.file_opening.proofs.Ends.{in_sessions}

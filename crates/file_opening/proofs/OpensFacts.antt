@@ -1,11 +1,10 @@
 -- The calls that open the sessions of the file, one session after the other.
-use Rattle.std.proofs.Common.{◌≡◌, ℕ, ◌+◌, ◌<◌, List, [], ◌∷◌, ◌++◌, length, take, get_or, Ok, Some, None, Option, sym, refl, ap, ◌∙◌, subst, arith}
+use Rattle.std.proofs.Common.{◌≡◌, ℕ, ◌+◌, ◌<◌, List, [], ◌∷◌, ◌++◌, length, take, get_or, Ok, sym, refl, ap, ◌∙◌, subst, arith}
 use Rattle.std.proofs.lemmas.List.{take_all, take_more}
-use Rattle.refl_types.specs.declared.config.ConfigParts.{ConfigParts}
 use Rattle.refl_types.specs.declared.outcome.Place.{Place}
 use Rattle.session_rule.specs.declared.seats.Table.{Table}
 use Rattle.session_desk.specs.Book.{Book}
-use Rattle.session_desk.specs.Makes.{Makes, reserves, starts, keeps_row}
+use Rattle.session_desk.specs.Makes.{Makes, reserves, starts}
 use Rattle.conf_text.specs.declared.sessions.Provided.{Provided}
 use Rattle.conf_text.specs.File.{File}
 use Rattle.file_opening.specs.Opening.{OpensAll, KeepsRow, OpensFile}
@@ -23,19 +22,10 @@ opens_next t f moment n s p a b r c inside is m st all =
     subst (λ (ss : List Provided). OpensAll t moment ss a c) (sym (take_more f.sessions n s inside ∙ ap (λ (x : Provided). take n f.sessions ++ x ∷ []) (sym is)))
     (opens_more t moment (take n f.sessions) s p a b r c all m st)
 
-opens_whole : (t : Table) (f : File) (moment : ℕ) (a b : Book) → OpensAll t moment (take (length f.sessions) f.sessions) a b → OpensAll t moment f.sessions a b
-opens_whole t f moment a b all = subst (λ (ss : List Provided). OpensAll t moment ss a b) (take_all (length f.sessions) f.sessions (omega arith)) all
-
-pub opens_file : (t : Table) (f : File) (moment : ℕ) (a b : Book) → OpensAll t moment (take (length f.sessions) f.sessions) a b → f.twamp ≡ None → OpensFile t f moment a b
-opens_file t f moment a b all none = record {
+-- all sessions were opened, and then twamp was given its row, where the file has it
+pub opens_file : (t : Table) (f : File) (moment n : ℕ) (a b : Book) → OpensAll t moment (take n f.sessions) a b → n ≡ length f.sessions → (d : Book) → KeepsRow t f.twamp b d → OpensFile t f moment a d
+opens_file t f moment n a b opens all d kept = record {
   opened = b;
-  sessions = opens_whole t f moment a b all;
-  twamp = subst (λ (o : Option ConfigParts). KeepsRow t o b b) (sym none) refl;
-}
-
-pub opens_file_with : (t : Table) (f : File) (moment : ℕ) (a b d : Book) (c : ConfigParts) → OpensAll t moment (take (length f.sessions) f.sessions) a b → f.twamp ≡ Some c → Makes t (keeps_row c (Ok tt)) b d → OpensFile t f moment a d
-opens_file_with t f moment a b d c all is m = record {
-  opened = b;
-  sessions = opens_whole t f moment a b all;
-  twamp = subst (λ (o : Option ConfigParts). KeepsRow t o b d) (sym is) m;
+  sessions = subst (λ (ss : List Provided). OpensAll t moment ss a b) (take_all n f.sessions (omega (arith, all))) opens;
+  twamp = kept;
 }

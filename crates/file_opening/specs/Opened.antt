@@ -3,30 +3,13 @@ use Rattle.std.specs.Prelude.{◌≡◌, ℕ, [], map, reverse, Option, Some, No
 use Rattle.std.specs.List.{AllZip}
 use Rattle.refl_types.specs.declared.config.ConfigParts.{ConfigParts}
 use Rattle.config_rows.specs.Rows.{Rows, IsRow}
-use Rattle.session_world.specs.declared.steps.TableSize.{TableSize}
 use Rattle.session_world.specs.Answers.{Answer, opened}
 use Rattle.session_rule.specs.declared.seats.Table.{Table}
-use Rattle.session_rule.specs.Seats.{joined_parts}
 use Rattle.session_desk.specs.declared.session.Session.{Session}
-use Rattle.session_desk.specs.Book.{Book, steps_of, answers_of}
-use Rattle.session_desk.specs.Going.{StandsAt, DeskWent}
+use Rattle.session_desk.specs.Book.{Book, answers_of}
+use Rattle.session_desk.specs.Going.{DeskWent}
 use Rattle.conf_text.specs.declared.sessions.Provided.{Provided}
 use Rattle.conf_text.specs.File.{File}
-
--- the size of the file's table
-abbrev pub size_in : File → TableSize
-size_in f = record { slots = f.slots; rows = f.rows; workers = f.workers }
-
--- the book of a table with as many slots and rows as the file says, of which no call was made
-pub record IsNewBook (t : Table) (f : File) (b : Book) : Type 0 where
-  pub stands : StandsAt t b
-  pub steps : steps_of b ≡ []
-  pub joined : joined_parts b.seat ≡ []
-  pub rows : b.rows ≡ record { configs = []; limit = f.rows }
-  pub live : b.live ≡ []
-  pub reserved : b.reserved ≡ []
-  pub keys : b.keys ≡ []
-  pub slots : b.size.slots ≡ f.slots
 
 -- The session of the file is this one of the book, in the row of its configuration. It was noted at that moment, and no
 -- closing moment is set

@@ -2,11 +2,29 @@
 use Rattle.std.specs.Prelude.{◌≡◌, ℕ, List, [], ◌∷◌, Option, Some, None, Ok}
 use Rattle.refl_types.specs.declared.config.ConfigParts.{ConfigParts}
 use Rattle.refl_types.specs.declared.outcome.Place.{Place}
+use Rattle.session_world.specs.declared.steps.TableSize.{TableSize}
 use Rattle.session_rule.specs.declared.seats.Table.{Table}
-use Rattle.session_desk.specs.Book.{Book}
+use Rattle.session_rule.specs.Seats.{size_of, joined_parts, IsDeskOfOneSchedule}
+use Rattle.session_desk.specs.Book.{Book, IsBookOf, steps_of}
 use Rattle.session_desk.specs.Makes.{Makes, reserves, starts, keeps_row}
 use Rattle.conf_text.specs.declared.sessions.Provided.{Provided}
 use Rattle.conf_text.specs.File.{File}
+
+-- the size of the file's table
+abbrev pub size_in : File → TableSize
+size_in f = record { slots = f.slots; rows = f.rows; workers = f.workers }
+
+-- the book of a table with as many slots and rows as the file says, of which no call was made
+pub record IsNewBook (t : Table) (f : File) (b : Book) : Type 0 where
+  pub book : IsBookOf t b
+  pub schedule : IsDeskOfOneSchedule (size_of t) (steps_of b) (joined_parts b.seat)
+  pub steps : steps_of b ≡ []
+  pub joined : joined_parts b.seat ≡ []
+  pub rows : b.rows ≡ record { configs = []; limit = f.rows }
+  pub live : b.live ≡ []
+  pub reserved : b.reserved ≡ []
+  pub keys : b.keys ≡ []
+  pub slots : b.size.slots ≡ f.slots
 
 -- the sessions were opened one after the other: each was reserved with its wait, and then started at the moment
 abbrev pub OpensAll : Table → (moment : ℕ) → List Provided → Book → Book → Type 0

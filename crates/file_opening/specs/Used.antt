@@ -7,8 +7,7 @@ use Rattle.session_rule.specs.declared.seats.Table.{Table}
 use Rattle.session_desk.specs.Book.{Book}
 use Rattle.conf_text.specs.File.{File}
 use Rattle.conf_text.specs.Rows.{in_use}
-use Rattle.file_opening.specs.Opened.{IsNewBook}
-use Rattle.file_opening.specs.Opening.{OpensFile}
+use Rattle.file_opening.specs.Opening.{IsNewBook, OpensFile}
 
 -- each of these stands among those
 abbrev pub Among : List ConfigParts → List ConfigParts → Type 0

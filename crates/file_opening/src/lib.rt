@@ -1,13 +1,14 @@
 //! The sessions of the file, opened in the desk's book before anybody is served.
 #![tactic(auto)]
 
-ghost use Rattle.std.specs.Prelude.{◌≡◌, ◌+◌, ◌<◌, length, take, IfOk};
+ghost use Rattle.std.specs.Prelude.{◌≡◌, ℕ, ◌+◌, ◌<◌, ◌≤◌, length, take, IfOk};
 ghost use Rattle.session_rule.specs.Seats.{size_of};
 ghost use Rattle.session_desk.specs.Book.{Book};
-ghost use Rattle.file_opening.specs.Opening.{OpensAll, OpensFile};
-ghost use Rattle.file_opening.specs.Opened.{size_in, IsNewBook, HasOpened};
-ghost use Rattle.file_opening.specs.OpenedFirst.{HasOpenedFirst};
 ghost use Rattle.session_desk.specs.Going.{DeskWent};
+ghost use Rattle.conf_text.specs.Rows.{distinct, in_use};
+ghost use Rattle.file_opening.specs.Opening.{size_in, IsNewBook, OpensAll, KeepsRow, OpensFile};
+ghost use Rattle.file_opening.specs.Opened.{HasOpened};
+ghost use Rattle.file_opening.specs.OpenedFirst.{HasOpenedFirst};
 
 use conf_text::Conf;
 use refl_types::Memory;
@@ -63,6 +64,21 @@ fn open_session(table: &Table, book: &mut DeskBook, conf: &Conf, index: usize, m
     };
 }
 
+/// Gives the configuration `twamp` a row, where the file has one. There is room, where no row but those of sessions of the file
+/// was given.
+fn keep_twamp(table: &Table, book: &mut DeskBook, conf: &Conf)
+    requires first { (moment n : ℕ) × HasOpenedFirst table.now conf.now moment n book.old }
+    requires rows { length (distinct (in_use conf.now.twamp conf.now.sessions)) ≤ conf.now.rows }
+    ensures { KeepsRow table.now conf.now.twamp book.old book.new }
+{
+    let Some(config) = conf.twamp() else {
+        return;
+    };
+    let Ok(()) = book.keep_row(table, config) else {
+        unreachable!();
+    };
+}
+
 /// Opens the sessions of the file in their order, each with its configuration and its wait, at the moment `moment`, in
 /// nanoseconds since the start of 1970; and gives the configuration `twamp` a row, where the file has one. None is refused.
 pub fn open_sessions(table: &Table, book: &mut DeskBook, conf: &Conf, moment: u64)
@@ -73,9 +89,5 @@ pub fn open_sessions(table: &Table, book: &mut DeskBook, conf: &Conf, moment: u6
     for index in 0..conf.sessions().len() {
         open_session(table, book, conf, index, moment);
     }
-    if let Some(config) = conf.twamp() {
-        let Ok(()) = book.keep_row(table, config) else {
-            unreachable!();
-        };
-    }
+    keep_twamp(table, book, conf);
 }

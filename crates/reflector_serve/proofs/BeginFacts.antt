@@ -20,7 +20,8 @@ use Rattle.session_desk.specs.Book.{Book, steps_of, answers_of}
 use Rattle.session_desk.specs.Fits.{BookFits}
 use Rattle.conf_text.specs.declared.sessions.Provided.{Provided}
 use Rattle.conf_text.specs.File.{File}
-use Rattle.file_opening.specs.Opened.{IsNewBook, IsOpened, opening_of, HasOpened}
+use Rattle.file_opening.specs.Opening.{IsNewBook}
+use Rattle.file_opening.specs.Opened.{IsOpened, opening_of, HasOpened}
 use Rattle.reflector_serve.specs.Phases.{Phase}
 use Rattle.reflector_serve.specs.Served.{opening_event}
 use Rattle.reflector_serve.proofs.PhaseFacts.{first_phase}

@@ -76,7 +76,7 @@ split_none ds n w k e none v a =
     ap (λ (x : Bool). x || is_split ds v) (ne_eqb v w (λ (f : v ≡ w). ⊎_elim (λ (c : v ≡ 0). omega (arith, c, e, f)) (λ (c : suc n < v). omega (arith, c, e, f)) a))
     ∙ none v (⊎_elim (λ (c : v ≡ 0). inl c) (λ (c : suc n < v). inr (omega (arith, c))) a)
 
-same_size : (t : Table) (b c : Book) → IsBookOf t b → c ≡ record b { seat = c.seat } → size_of t ≡ c.size
+pub same_size : (t : Table) (b c : Book) → IsBookOf t b → c ≡ record b { seat = c.seat } → size_of t ≡ c.size
 same_size t b c is e = is.1 ∙ ap (λ (x : Book). x.size) (sym e)
 
 pub split_phase : (t : Table) (first base : List Step) (b c : Book) (n : ℕ) (w : WorkerSeat) → Phase t first base b n [] → HasSplit t b c w → Phase t first base c (suc n) []

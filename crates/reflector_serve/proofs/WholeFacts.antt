@@ -9,8 +9,8 @@ use Rattle.session_rule.specs.Seats.{size_of, joined_parts}
 use Rattle.session_desk.specs.Book.{Book, steps_of}
 use Rattle.session_desk.specs.Fits.{BookFits}
 use Rattle.conf_text.specs.File.{File}
-use Rattle.file_opening.specs.Opened.{IsNewBook, HasOpened}
-use Rattle.file_opening.specs.Opening.{OpensFile}
+use Rattle.file_opening.specs.Opening.{size_in, IsNewBook, OpensFile}
+use Rattle.file_opening.specs.Opened.{HasOpened}
 use Rattle.control_desk.specs.State.{Room}
 use Rattle.control_desk.specs.Connections.{first_room}
 use Rattle.reflector_serve.specs.declared.report.Report.{Report}
@@ -19,7 +19,6 @@ use Rattle.control_desk.specs.Faults.{AreFaultsTold}
 use Rattle.control_desk.specs.Run.{HasRun, HasGone}
 use Rattle.reflector_serve.specs.Ports.{PortView, IsBound, Each, FirstTold}
 use Rattle.reflector_serve.specs.Phases.{SplitsOff}
-use Rattle.file_opening.specs.Opened.{size_in}
 use Rattle.reflector_serve.specs.Served.{DeskView, Served}
 use Rattle.reflector_serve.specs.Running.{HasServed}
 use Rattle.reflector_serve.proofs.BeginFacts.{begins}

@@ -18,8 +18,7 @@ use Rattle.session_desk.specs.Book.{Book, steps_of}
 use Rattle.session_desk.specs.Fits.{BookFits}
 use Rattle.conf_text.specs.declared.sessions.Provided.{Provided}
 use Rattle.conf_text.specs.File.{File}
-use Rattle.file_opening.specs.Opened.{size_in, IsNewBook}
-use Rattle.file_opening.specs.Opening.{OpensFile}
+use Rattle.file_opening.specs.Opening.{size_in, IsNewBook, OpensFile}
 use Rattle.receive_worker.specs.declared.tally.Tally.{Tally}
 use Rattle.receive_worker.specs.Faults.{RisesBy}
 use Rattle.receive_worker.specs.Accounts.{Accounts}
