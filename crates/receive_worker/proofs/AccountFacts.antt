@@ -1,5 +1,5 @@
 -- What the seat's answers alone say of the tally.
-use Rattle.std.proofs.Common.{◌≡◌, ℕ, zero, suc, ◌+◌, List, [], ◌∷◌, ◌++◌, Result, Ok, Err, refl, sym, ap, subst, ◌∙◌, append_assoc, arith}
+use Rattle.std.proofs.Common.{◌≡◌, ℕ, ◌+◌, List, [], ◌∷◌, ◌++◌, Ok, Err, refl, sym, subst, append_assoc, arith}
 use Rattle.refl_types.specs.declared.types.Endpoint.{Endpoint}
 use Rattle.refl_types.specs.declared.outcome.Silent.{Silent}
 use Rattle.refl_types.specs.declared.outcome.Silent.TheVariants as silents
@@ -13,7 +13,6 @@ use Rattle.session_world.specs.Keys.{Query, Key, Extra, ConfigParts}
 use Rattle.session_world.specs.Answers.{Answer, worker_answers}
 use Rattle.net_io.specs.Port.{PortEntry}
 use Rattle.receive_worker.specs.declared.tally.Tally.{Tally}
-use Rattle.receive_worker.specs.declared.tally.WorkEnd.{WorkEnd}
 use Rattle.receive_worker.specs.Turn.{Group, no_match, only_seen, seen_late, seen_drew, answers_of, query, Outcome, silence, IsDrawn, IsTurn, judged_under}
 use Rattle.receive_worker.specs.Tally.{no_tally, with_outcome}
 use Rattle.receive_worker.specs.Work.{Round, idle, over, failed, turned, arrived_at, answers_in, all_answers, HaveTurns, with_round, tally_after}

@@ -1,5 +1,5 @@
 -- What a seat gains, what a log is told, and what a port's count rises by, call after call.
-use Rattle.std.proofs.Common.{◌≡◌, ◌⊎◌, inl, inr, ℕ, ◌+◌, ◌-◌, ◌^◌, ◌<◌, ◌≤◌, List, [], ◌∷◌, ◌++◌, Option, Some, None, Result, Ok, refl, sym, ap, subst, ◌∙◌, append_assoc, take, length, arith}
+use Rattle.std.proofs.Common.{◌≡◌, inl, inr, ℕ, ◌+◌, List, [], ◌∷◌, ◌++◌, Option, Some, None, Result, Ok, refl, sym, ap, subst, ◌∙◌, append_assoc, take, length, arith}
 use Rattle.std.proofs.lemmas.List.{append-nil}
 use Rattle.std.proofs.Math.Seq.{take-append_seam}
 use Rattle.session_world.specs.declared.steps.Step.{Step}
@@ -12,12 +12,13 @@ use Rattle.net_io.specs.Log.{Grows}
 use Rattle.port_io.specs.declared.outside.Failed.{Failed}
 use Rattle.net_io.specs.declared.port.Got.{Got}
 use Rattle.net_io.specs.declared.port.Got.TheVariants.{Datagram}
-use Rattle.net_io.specs.Port.{PortEntry, took, recv_entry}
+use Rattle.net_io.specs.Port.{PortEntry, took, got_entry, recv_entry, Receives}
 use Rattle.port_io.specs.Outside.{Rises}
 use Rattle.session_table.specs.Steps.{HasCome}
 use Rattle.session_table.specs.Knowing.{MaybeLoads}
 use Rattle.receive_worker.specs.Faults.{RisesBy}
 use Rattle.receive_worker.specs.Turn.{LastTook}
+use Rattle.receive_worker.specs.Work.{Gives, GivesAway}
 
 pub grows_none : {E : Type 0} (l : Option (List E)) → Grows l l []
 grows_none None = tt
@@ -28,6 +29,32 @@ grows_then a b None x y p q = tt
 grows_then a None (Some n) x y p q = absurd q
 grows_then None (Some m) (Some n) x y p q = absurd p
 grows_then (Some l) (Some m) (Some n) x y p q = q ∙ ap (λ (r : List _). r ++ y) p ∙ append_assoc l x y
+
+pub given_none : (coming : Option (List PortEntry)) → GivesAway coming coming []
+given_none None = tt
+given_none (Some coming) = refl
+
+gives_then : (coming xs mid ys rest : List PortEntry) → Gives coming xs mid → Gives mid ys rest → Gives coming (xs ++ ys) rest
+gives_then coming [] mid ys rest p q = subst (λ (l : List PortEntry). Gives l ys rest) p q
+gives_then [] (item ∷ xs) mid ys rest p q = (p.0, gives_then [] xs mid ys rest p.1 q)
+gives_then (first ∷ coming) (item ∷ xs) mid ys rest p q = (p.0, gives_then coming xs mid ys rest p.1 q)
+
+pub given_then : (a b c : Option (List PortEntry)) (xs ys : List PortEntry) → GivesAway a b xs → GivesAway b c ys → GivesAway a c (xs ++ ys)
+given_then None b c xs ys p q = tt
+given_then (Some a) None c xs ys p q = absurd p
+given_then (Some a) (Some b) None xs ys p q = absurd q
+given_then (Some a) (Some b) (Some c) xs ys p q = gives_then a xs b ys c p q
+
+-- what a receive gave, it gave away
+pub received_gives : (a b : Option (List PortEntry)) (buf : List ℕ) (got : Got) → Receives a b buf (Ok got) → GivesAway a b (got_entry buf got ∷ [])
+received_gives None b buf got h = tt
+received_gives (Some a) None buf got h = absurd h
+received_gives (Some []) (Some b) buf got h = h
+received_gives (Some (first ∷ a)) (Some b) buf got h = h
+
+-- one that failed gave nothing
+pub failed_gives : (a b : Option (List PortEntry)) → b ≡ a → GivesAway a b []
+failed_gives a b e = subst (λ (coming : Option (List PortEntry)). GivesAway a coming []) (sym e) (given_none a)
 
 -- a log that grew by a taking has it as its last entry
 grown_took : (a b : Option (List PortEntry)) (meta : Meta) (octets : List ℕ) → Grows a b (took meta octets ∷ []) → LastTook b meta octets

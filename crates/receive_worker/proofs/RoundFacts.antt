@@ -1,10 +1,9 @@
 -- A worker, round after round.
-use Rattle.std.proofs.Common.{◌≡◌, ℕ, zero, suc, ◌+◌, ◌<◌, ◌≤◌, List, [], ◌∷◌, ◌++◌, Option, Some, None, Ok, Err, refl, sym, ap, subst, ◌∙◌, append_assoc, arith}
+use Rattle.std.proofs.Common.{◌≡◌, ℕ, zero, suc, ◌+◌, List, [], ◌∷◌, ◌++◌, Option, Some, None, Ok, Err, refl, sym, ap, subst, ◌∙◌, append_assoc, arith}
 use Rattle.std.proofs.lemmas.List.{append-nil}
 use Rattle.refl_types.specs.declared.types.Endpoint.{Endpoint}
 use Rattle.refl_types.specs.declared.types.Meta.{Meta}
 use Rattle.refl_types.specs.declared.outcome.Unanswered.TheVariants.{NoSession, Short, BadHmac, NoReply, Changed, SendFault}
-use Rattle.session_world.specs.declared.steps.Step.{Step}
 use Rattle.session_world.specs.declared.steps.Step.TheVariants.{Retire}
 use Rattle.session_world.specs.Sizes.{IsWithinLimits}
 use Rattle.session_world.specs.Keys.{ConfigParts}
@@ -16,6 +15,7 @@ use Rattle.session_rule.specs.declared.seats.Table.{Table}
 use Rattle.session_rule.specs.declared.seats.WorkerSeat.{WorkerSeat}
 use Rattle.session_rule.specs.Seats.{size_of, worker_number, worker_steps}
 use Rattle.net_io.specs.Log.{Grows}
+use Rattle.net_io.specs.PortShown.{PortShown}
 use Rattle.net_io.specs.Port.{PortEntry, took, done}
 use Rattle.receive_worker.specs.declared.tally.Tally.{Tally}
 use Rattle.receive_worker.specs.declared.tally.WorkEnd.{WorkEnd}
@@ -27,9 +27,9 @@ use Rattle.session_table.specs.Holding.{HoldsNothing}
 use Rattle.session_table.specs.Knowing.{ReadsMore}
 use Rattle.receive_worker.specs.Turn.{Outcome, Turned}
 use Rattle.receive_worker.specs.Tally.{no_tally, with_begun, AddsUp}
-use Rattle.receive_worker.specs.Work.{Round, kind_of, entries_of, answers_in, all_entries, all_answers, HaveTurns, with_round, tally_after, Progress, at_first, progress_by, progress, progress_after, due, due_by, NoneDue, EndsBy, IsEnd, failures_of, WorksThrough, IsRound, IsWork, Worked, turned, arrived_at}
+use Rattle.receive_worker.specs.Work.{Round, kind_of, entries_of, given_in, answers_in, all_entries, all_given, all_answers, HaveTurns, with_round, tally_after, Progress, at_first, progress_by, progress, progress_after, due, due_by, NoneDue, EndsBy, IsEnd, GivesAway, failures_of, WorksThrough, IsRound, IsWork, Worked, HasGiven, turned, arrived_at}
 use Rattle.receive_worker.specs.Accounts.{Accounts}
-use Rattle.receive_worker.proofs.GrowthFacts.{grows_none, grows_then, gained_then}
+use Rattle.receive_worker.proofs.GrowthFacts.{grows_none, grows_then, given_none, given_then, gained_then}
 use Rattle.receive_worker.proofs.TurnFacts.{LetGo}
 use Rattle.receive_worker.proofs.AccountFacts.{accounts}
 
@@ -47,6 +47,10 @@ turns_push : (config : ℕ → ConfigParts) (locals : List Endpoint) (rs : List 
 turns_push config locals [] r h k = k
 turns_push config locals (q ∷ rs) r h k = (h.0, turns_push config locals rs r h.1 k)
 
+given_push : (rs : List Round) (r : Round) → all_given (rs ++ r ∷ []) ≡ all_given rs ++ all_given (r ∷ [])
+given_push [] r = refl
+given_push (q ∷ rs) r = ap (λ (l : List PortEntry). given_in q ++ l) (given_push rs r) ∙ sym (append_assoc (given_in q) (all_given rs) (all_given (r ∷ [])))
+
 tally_push : (t : Tally) (rs : List Round) (r : Round) → tally_after t (rs ++ r ∷ []) ≡ with_round (tally_after t rs) r
 tally_push t [] r = refl
 tally_push t (q ∷ rs) r = tally_push (with_round t q) rs r
@@ -59,10 +63,10 @@ none_push : (limit turns : ℕ) (p : Progress) (rs : List Round) (r : Round) →
 none_push limit turns p [] r h k = (k, tt)
 none_push limit turns p (q ∷ rs) r h k = (h.0, none_push limit turns (progress p q) rs r h.1 k)
 
-pub works_none : (t : Table) (locals : List Endpoint) (seat : WorkerSeat) (log : Option (List PortEntry)) → WorksThrough t locals [] seat seat log log
-works_none t locals seat log = record { gained = []; steps = refl; answers = refl; written = grows_none log; turned = λ config reads. tt }
+pub works_none : {S : Type 0} (t : Table) (locals : List Endpoint) (seat : WorkerSeat) (port : PortShown S) → WorksThrough t locals [] seat seat port port
+works_none t locals seat port = record { gained = []; steps = refl; answers = refl; written = grows_none port.log; given = given_none port.coming; turned = λ config reads. tt }
 
-pub works_then : (t : Table) (locals : List Endpoint) (rs : List Round) (r : Round) (a b c : WorkerSeat) (k l m : Option (List PortEntry)) → ReadsMore → WorksThrough t locals rs a b k l → WorksThrough t locals (r ∷ []) b c l m
+pub works_then : {S : Type 0} (t : Table) (locals : List Endpoint) (rs : List Round) (r : Round) (a b c : WorkerSeat) (k l m : PortShown S) → ReadsMore → WorksThrough t locals rs a b k l → WorksThrough t locals (r ∷ []) b c l m
     → WorksThrough t locals (rs ++ r ∷ []) a c k m
 works_then t locals rs r a b c k l m law p q = record {
   gained = q.gained ++ p.gained;
@@ -71,22 +75,24 @@ works_then t locals rs r a b c k l m law p q = record {
       q.answers ∙ ap (λ (g : List (Answer ℕ)). all_answers locals (r ∷ []) ++ g) p.answers
       ∙ sym (append_assoc (all_answers locals (r ∷ [])) (all_answers locals rs) (worker_answers z (worker_steps a)))
       ∙ ap (λ (g : List (Answer ℕ)). g ++ worker_answers z (worker_steps a)) (sym (answers_push locals rs r));
-  written = subst (Grows k m) (sym (entries_push rs r)) (grows_then k l m (all_entries rs) (all_entries (r ∷ [])) p.written q.written);
+  written = subst (Grows k.log m.log) (sym (entries_push rs r)) (grows_then k.log l.log m.log (all_entries rs) (all_entries (r ∷ [])) p.written q.written);
+  given = subst (GivesAway k.coming m.coming) (sym (given_push rs r)) (given_then k.coming l.coming m.coming (all_given rs) (all_given (r ∷ [])) p.given q.given);
   turned = λ config reads.
       turns_push config locals rs r (p.turned config (law.rows config q.gained (worker_steps b) (subst (ReadsRows config) q.steps reads))) (q.turned config reads);
 }
 
 -- a round in which a datagram came
-pub turned_round : (t : Table) (locals : List Endpoint) (meta : Meta) (octets : List ℕ) (before after : WorkerSeat) (k l m : Option (List PortEntry)) (outcome : Outcome) → Grows k l (took meta octets ∷ [])
-    → Turned t (arrived_at locals meta octets) before after l m outcome → IsRound t locals before after k m (begun.Turned outcome)
-turned_round t locals meta octets before after k l m outcome taken h = record {
+pub turned_round : {S : Type 0} (t : Table) (locals : List Endpoint) (meta : Meta) (octets : List ℕ) (before after : WorkerSeat) (k l m : PortShown S) (outcome : Outcome) → Grows k.log l.log (took meta octets ∷ [])
+    → GivesAway k.coming m.coming (took meta octets ∷ []) → Turned t (arrived_at locals meta octets) before after l.log m.log outcome → IsRound t locals before after k m (begun.Turned outcome)
+turned_round t locals meta octets before after k l m outcome taken given h = record {
   round = turned meta octets h.group h.entries outcome;
   kind = refl;
   works = record {
     gained = h.gained;
     steps = h.steps;
     answers = h.answers;
-    written = subst (Grows k m) (sym (append-nil (took meta octets ∷ h.entries))) (grows_then k l m (took meta octets ∷ []) h.entries taken h.written);
+    written = subst (Grows k.log m.log) (sym (append-nil (took meta octets ∷ h.entries))) (grows_then k.log l.log m.log (took meta octets ∷ []) h.entries taken h.written);
+    given = given;
     turned = λ config reads. (h.turn config reads, tt);
   };
 }
@@ -156,33 +162,33 @@ progress_with t calls failed (begun.Turned (Err SendFault)) = refl
 -- ---- the loop
 
 -- after these rounds no end was due
-pub record Going (t : Table) (locals : List Endpoint) (limit turns : ℕ) (before after : WorkerSeat) (log log' : Option (List PortEntry)) (tally : Tally) (calls failed : ℕ) : Type 0 where
+pub record Going {S : Type 0} (t : Table) (locals : List Endpoint) (limit turns : ℕ) (before after : WorkerSeat) (port port' : PortShown S) (tally : Tally) (calls failed : ℕ) : Type 0 where
   pub rounds : List Round
-  pub works : WorksThrough t locals rounds before after log log'
+  pub works : WorksThrough t locals rounds before after port port'
   pub counted : tally ≡ tally_after (no_tally Budget) rounds
   pub none : NoneDue limit turns at_first rounds
   pub progress : progress_after at_first rounds ≡ progress_of tally calls failed
 
-pub begins : (t : Table) (locals : List Endpoint) (limit turns : ℕ) (seat : WorkerSeat) (log : Option (List PortEntry)) (tally : Tally) → tally ≡ no_tally Budget → Going t locals limit turns seat seat log log tally 0 0
-begins t locals limit turns seat log tally e = record {
+pub begins : {S : Type 0} (t : Table) (locals : List Endpoint) (limit turns : ℕ) (seat : WorkerSeat) (port : PortShown S) (tally : Tally) → tally ≡ no_tally Budget → Going t locals limit turns seat seat port port tally 0 0
+begins t locals limit turns seat port tally e = record {
   rounds = [];
-  works = works_none t locals seat log;
+  works = works_none t locals seat port;
   counted = e;
   none = tt;
   progress = ap (λ (u : Tally). progress_of u 0 0) (sym e);
 }
 
 -- a round more, and the progress that it makes
-record More (t : Table) (locals : List Endpoint) (limit turns : ℕ) (before after : WorkerSeat) (log log' : Option (List PortEntry)) (tally : Tally) (calls failed : ℕ) (b : Begun) : Type 0 where
+record More {S : Type 0} (t : Table) (locals : List Endpoint) (limit turns : ℕ) (before after : WorkerSeat) (port port' : PortShown S) (tally : Tally) (calls failed : ℕ) (b : Begun) : Type 0 where
   rounds : List Round
   last : Round
   kind : b ≡ kind_of last
-  works : WorksThrough t locals (rounds ++ last ∷ []) before after log log'
+  works : WorksThrough t locals (rounds ++ last ∷ []) before after port port'
   counted : tally ≡ tally_after (no_tally Budget) (rounds ++ last ∷ [])
   none : NoneDue limit turns at_first rounds
   progress : progress_after at_first (rounds ++ last ∷ []) ≡ progress_of tally calls failed
 
-more : (t : Table) (locals : List Endpoint) (limit turns : ℕ) (before seat after : WorkerSeat) (k l m : Option (List PortEntry)) (tally : Tally) (calls failed : ℕ) (b : Begun) (failed' : ℕ)
+more : {S : Type 0} (t : Table) (locals : List Endpoint) (limit turns : ℕ) (before seat after : WorkerSeat) (k l m : PortShown S) (tally : Tally) (calls failed : ℕ) (b : Begun) (failed' : ℕ)
     → ReadsMore → Going t locals limit turns before seat k l tally calls failed → IsRound t locals seat after l m b
     → failed' ≡ (progress_by (progress_of tally calls failed) b).failed → More t locals limit turns before after k m (with_begun tally b) (calls + 1) failed' b
 more t locals limit turns before seat after k l m tally calls failed b failed' law g r e = record {
@@ -197,13 +203,13 @@ more t locals limit turns before seat after k l m tally calls failed b failed' l
       ∙ ap (λ (f : ℕ). progress_of (with_begun tally b) (calls + 1) f) (sym e);
 }
 
-due_after : (t : Table) (locals : List Endpoint) (limit turns : ℕ) (before after : WorkerSeat) (log log' : Option (List PortEntry)) (tally : Tally) (calls failed : ℕ) (b : Begun) (h : More t locals limit turns before after log log' tally calls failed b)
+due_after : {S : Type 0} (t : Table) (locals : List Endpoint) (limit turns : ℕ) (before after : WorkerSeat) (port port' : PortShown S) (tally : Tally) (calls failed : ℕ) (b : Begun) (h : More t locals limit turns before after port port' tally calls failed b)
     → due limit turns (progress_after at_first (h.rounds ++ h.last ∷ [])) h.last ≡ due_by limit turns (progress_of tally calls failed) b
-due_after t locals limit turns before after log log' tally calls failed b h =
+due_after t locals limit turns before after port port' tally calls failed b h =
     ap (λ (p : Progress). due_by limit turns p (kind_of h.last)) h.progress ∙ ap (due_by limit turns (progress_of tally calls failed)) (sym h.kind)
 
 -- no end is due
-pub goes_on : (t : Table) (locals : List Endpoint) (limit turns : ℕ) (before seat after : WorkerSeat) (k l m : Option (List PortEntry)) (tally : Tally) (calls failed : ℕ) (b : Begun) (failed' : ℕ) (tally' : Tally)
+pub goes_on : {S : Type 0} (t : Table) (locals : List Endpoint) (limit turns : ℕ) (before seat after : WorkerSeat) (k l m : PortShown S) (tally : Tally) (calls failed : ℕ) (b : Begun) (failed' : ℕ) (tally' : Tally)
     → ReadsMore → Going t locals limit turns before seat k l tally calls failed → IsRound t locals seat after l m b
     → failed' ≡ (progress_by (progress_of tally calls failed) b).failed → tally' ≡ with_begun tally b → due_by limit turns (progress_of tally' (calls + 1) failed') b ≡ None
     → Going t locals limit turns before after k m tally' (calls + 1) failed'
@@ -225,7 +231,7 @@ ends_by limit zero rs e some h = absurd (some refl)
 ends_by limit (suc turns) rs e some h = h
 
 -- an end is due
-pub ends : (t : Table) (locals : List Endpoint) (limit turns : ℕ) (before seat after : WorkerSeat) (k l m : Option (List PortEntry)) (tally : Tally) (calls failed : ℕ) (b : Begun) (failed' : ℕ) (tally' : Tally) (e : WorkEnd)
+pub ends : {S : Type 0} (t : Table) (locals : List Endpoint) (limit turns : ℕ) (before seat after : WorkerSeat) (k l m : PortShown S) (tally : Tally) (calls failed : ℕ) (b : Begun) (failed' : ℕ) (tally' : Tally) (e : WorkEnd)
     → ReadsMore → ¬ (turns ≡ 0) → Going t locals limit turns before seat k l tally calls failed → IsRound t locals seat after l m b
     → failed' ≡ (progress_by (progress_of tally calls failed) b).failed → tally' ≡ with_begun tally b → due_by limit turns (progress_of tally' (calls + 1) failed') b ≡ Some e
     → IsWork t locals limit turns before after k m (record tally' { end = e })
@@ -247,18 +253,18 @@ ends t locals limit turns before seat after k l m tally calls failed b failed' t
     }
 
 -- no round at all
-pub spent : (t : Table) (locals : List Endpoint) (limit turns : ℕ) (seat : WorkerSeat) (log : Option (List PortEntry)) (tally : Tally) → turns ≡ 0 → tally ≡ no_tally Budget → IsWork t locals limit turns seat seat log log tally
-spent t locals limit turns seat log tally none e = subst (λ (u : Tally). IsWork t locals limit turns seat seat log log u) (sym e) (record {
+pub spent : {S : Type 0} (t : Table) (locals : List Endpoint) (limit turns : ℕ) (seat : WorkerSeat) (port : PortShown S) (tally : Tally) → turns ≡ 0 → tally ≡ no_tally Budget → IsWork t locals limit turns seat seat port port tally
+spent t locals limit turns seat port tally none e = subst (λ (u : Tally). IsWork t locals limit turns seat seat port port u) (sym e) (record {
   rounds = [];
-  works = works_none t locals seat log;
+  works = works_none t locals seat port;
   counted = refl;
   end = subst (λ (n : ℕ). IsEnd limit n [] Budget) (sym none) (refl, refl);
 })
 
 -- ---- the whole
 
-pub whole_work : (t : Table) (locals : List Endpoint) (limit turns : ℕ) (before seat after : WorkerSeat) (k l m : Option (List PortEntry)) (tally : Tally) → LetGo t before seat → HasCome t seat after (worker_steps after) → HoldsNothing (worker_steps after) → announced (worker_steps after) ≡ None
-    → IsWork t locals limit turns seat after k l tally → Grows l m (done ∷ []) → Worked t locals limit turns before after k m tally
+pub whole_work : {S : Type 0} (t : Table) (locals : List Endpoint) (limit turns : ℕ) (before seat after : WorkerSeat) (k l m : PortShown S) (tally : Tally) → LetGo t before seat → HasCome t seat after (worker_steps after) → HoldsNothing (worker_steps after) → announced (worker_steps after) ≡ None
+    → IsWork t locals limit turns seat after k l tally → Grows l.log m.log (done ∷ []) → Worked t locals limit turns before after k.log m.log tally
 whole_work t locals limit turns before seat after k l m tally gone come nothing retired w told = record {
   come = record { steps = refl; number = come.number ∙ gone.come.number; seat = come.seat; schedule = come.schedule };
   nothing = nothing;
@@ -269,15 +275,25 @@ whole_work t locals limit turns before seat after k l m tally gone come nothing 
   worked = λ config reads. record {
     answers = w.works.answers ∙ ap (λ (g : List (Answer ℕ)). all_answers locals w.rounds ++ g) gone.answers;
     turned = w.works.turned config reads;
-    written = grows_then k l m (all_entries w.rounds) (done ∷ []) w.works.written told;
+    written = grows_then k.log l.log m.log (all_entries w.rounds) (done ∷ []) w.works.written told;
     counted = w.counted;
     end = w.end;
   };
 }
 
-pub whole_accounts : (t : Table) (locals : List Endpoint) (limit turns : ℕ) (before seat after : WorkerSeat) (k l : Option (List PortEntry)) (tally : Tally) → WorkersReadRows → IsWithinLimits (size_of t) → LetGo t before seat
+pub whole_accounts : {S : Type 0} (t : Table) (locals : List Endpoint) (limit turns : ℕ) (before seat after : WorkerSeat) (k l : PortShown S) (tally : Tally) → WorkersReadRows → IsWithinLimits (size_of t) → LetGo t before seat
     → HasCome t seat after (worker_steps after) → IsWork t locals limit turns seat after k l tally → Accounts (size_of t).slots (worker_steps before) (worker_steps after) tally
 whole_accounts t locals limit turns before seat after k l tally law within gone come w =
     let h = law (size_of t) (worker_number after) (worker_steps after) within come.schedule in
     accounts (config_at h.desk) locals (size_of t).slots w.rounds (worker_steps before) (worker_steps after) tally
     (w.works.answers ∙ ap (λ (g : List (Answer ℕ)). all_answers locals w.rounds ++ g) gone.answers) (w.works.turned (config_at h.desk) h.rows) w.counted
+
+pub whole_given : {S : Type 0} (t : Table) (locals : List Endpoint) (limit turns : ℕ) (seat after : WorkerSeat) (k l m : PortShown S) (tally : Tally) → IsWork t locals limit turns seat after k l tally
+    → Grows l.log m.log (done ∷ []) → m.coming ≡ l.coming → HasGiven limit turns k m tally
+whole_given t locals limit turns seat after k l m tally w told left = record {
+  rounds = w.rounds;
+  written = grows_then k.log l.log m.log (all_entries w.rounds) (done ∷ []) w.works.written told;
+  counted = w.counted;
+  end = w.end;
+  given = subst (λ (coming : Option (List PortEntry)). GivesAway k.coming coming (all_given w.rounds)) (sym left) w.works.given;
+}

@@ -1,6 +1,5 @@
 -- What a worker counts (this project's own).
-use Rattle.std.specs.Prelude.{◌≡◌, ℕ, ◌+◌, ◌≤◌, Result, Ok, Err}
-use Rattle.refl_types.specs.declared.outcome.Unanswered.{Unanswered}
+use Rattle.std.specs.Prelude.{◌≡◌, ℕ, ◌+◌, ◌≤◌, Ok, Err}
 use Rattle.refl_types.specs.declared.outcome.Unanswered.TheVariants.{NoSession, Short, BadHmac, NoReply, Changed, SendFault}
 use Rattle.receive_worker.specs.declared.tally.Tally.{Tally}
 use Rattle.receive_worker.specs.declared.tally.WorkEnd.{WorkEnd}

@@ -1,5 +1,5 @@
 -- A worker's rounds, one for each call of `recv`, and its end (this project's own). Rounds stand in the order of time.
-use Rattle.std.specs.Prelude.{◌≡◌, ℕ, zero, suc, ◌+◌, ◌==◌, Bool, true, false, ◌&&◌, not, if◌then◌else◌, List, [], ◌∷◌, ◌++◌, Option, Some, None}
+use Rattle.std.specs.Prelude.{◌≡◌, ℕ, zero, suc, ◌+◌, ◌==◌, Bool, true, false, ◌&&◌, not, if◌then◌else◌, List, [], ◌∷◌, ◌++◌, Option, Some, None, ⊤}
 use Rattle.refl_types.specs.declared.types.Endpoint.{Endpoint}
 use Rattle.refl_types.specs.declared.types.Meta.{Meta}
 use Rattle.reflect_core.specs.Arrived.{Arrived}
@@ -13,6 +13,7 @@ use Rattle.session_rule.specs.declared.seats.Table.{Table}
 use Rattle.session_rule.specs.declared.seats.WorkerSeat.{WorkerSeat}
 use Rattle.session_rule.specs.Seats.{size_of, worker_steps}
 use Rattle.net_io.specs.Log.{Grows}
+use Rattle.net_io.specs.PortShown.{PortShown}
 use Rattle.net_io.specs.Port.{PortEntry, took, quiet, ended, recv_failed, done}
 use Rattle.receive_worker.specs.declared.tally.Tally.{Tally}
 use Rattle.receive_worker.specs.declared.tally.WorkEnd.{WorkEnd}
@@ -46,6 +47,13 @@ entries_of over = ended ∷ []
 entries_of failed = recv_failed ∷ []
 entries_of (turned meta octets group entries outcome) = took meta octets ∷ entries
 
+-- what it took from what was to come; a receive that failed took nothing
+abbrev pub given_in : Round → List PortEntry
+given_in idle = quiet ∷ []
+given_in over = ended ∷ []
+given_in failed = []
+given_in (turned meta octets group entries outcome) = took meta octets ∷ []
+
 abbrev pub arrived_at : List Endpoint → Meta → List ℕ → Arrived
 arrived_at locals meta octets = record { meta = meta; octets = octets; locals = locals }
 
@@ -61,6 +69,10 @@ answers_in locals (turned meta octets group entries outcome) = answers_of (query
 abbrev pub all_entries : List Round → List PortEntry
 all_entries [] = []
 all_entries (r ∷ rs) = entries_of r ++ all_entries rs
+
+abbrev pub all_given : List Round → List PortEntry
+all_given [] = []
+all_given (r ∷ rs) = given_in r ++ all_given rs
 
 -- the latest first
 abbrev pub all_answers : List Endpoint → List Round → List (Answer ℕ)
@@ -149,6 +161,20 @@ abbrev pub IsEnd : ℕ → ℕ → List Round → WorkEnd → Type 0
 IsEnd limit zero rounds e = (rounds ≡ []) × (e ≡ Budget)
 IsEnd limit (suc turns) rounds e = EndsBy limit (suc turns) rounds e
 
+-- ---- what the port gave
+
+-- Each was the first of what was then to come, or an end where nothing was left; and this is still to come
+abbrev pub Gives : List PortEntry → List PortEntry → List PortEntry → Type 0
+Gives coming [] rest = rest ≡ coming
+Gives [] (item ∷ given) rest = (item ≡ ended) × Gives [] given rest
+Gives (first ∷ coming) (item ∷ given) rest = (item ≡ first) × Gives coming given rest
+
+-- the same of what a port tells; of one that doesn't tell what is to come nothing is said
+abbrev pub GivesAway : Option (List PortEntry) → Option (List PortEntry) → List PortEntry → Type 0
+GivesAway None coming' given = ⊤
+GivesAway (Some coming) None given = ⊥
+GivesAway (Some coming) (Some rest) given = Gives coming given rest
+
 -- ---- what a call does
 
 -- how many failures of the port a round tells
@@ -158,25 +184,26 @@ failures_of begun.Over = 0
 failures_of begun.Failed = 1
 failures_of (begun.Turned outcome) = failed_sends outcome
 
--- A worker went through these rounds: the answers that its seat gained, and the entries that its port's log did. Each datagram has
--- its turn whatever configurations the rows stand for, as far as the seat's loads of rows tell
-pub record WorksThrough (t : Table) (locals : List Endpoint) (rounds : List Round) (before after : WorkerSeat) (log log' : Option (List PortEntry)) : Type 0 where
+-- A worker went through these rounds: the answers that its seat gained, the entries that its port's log did, and what the port gave
+-- of what was to come. Each datagram has its turn whatever configurations the rows stand for, as far as the seat's loads of rows tell
+pub record WorksThrough {S : Type 0} (t : Table) (locals : List Endpoint) (rounds : List Round) (before after : WorkerSeat) (port port' : PortShown S) : Type 0 where
   pub gained : List Step
   pub steps : worker_steps after ≡ gained ++ worker_steps before
   pub answers : worker_answers (size_of t).slots (worker_steps after) ≡ all_answers locals rounds ++ worker_answers (size_of t).slots (worker_steps before)
-  pub written : Grows log log' (all_entries rounds)
+  pub written : Grows port.log port'.log (all_entries rounds)
+  pub given : GivesAway port.coming port'.coming (all_given rounds)
   pub turned : (config : ℕ → ConfigParts) → ReadsRows config (worker_steps after) → HaveTurns config locals rounds
 
 -- it went through one round, which began this
-pub record IsRound (t : Table) (locals : List Endpoint) (before after : WorkerSeat) (log log' : Option (List PortEntry)) (b : Begun) : Type 0 where
+pub record IsRound {S : Type 0} (t : Table) (locals : List Endpoint) (before after : WorkerSeat) (port port' : PortShown S) (b : Begun) : Type 0 where
   pub round : Round
   pub kind : b ≡ kind_of round
-  pub works : WorksThrough t locals (round ∷ []) before after log log'
+  pub works : WorksThrough t locals (round ∷ []) before after port port'
 
 -- it went through rounds up to the end that was due
-pub record IsWork (t : Table) (locals : List Endpoint) (limit turns : ℕ) (before after : WorkerSeat) (log log' : Option (List PortEntry)) (tally : Tally) : Type 0 where
+pub record IsWork {S : Type 0} (t : Table) (locals : List Endpoint) (limit turns : ℕ) (before after : WorkerSeat) (port port' : PortShown S) (tally : Tally) : Type 0 where
   pub rounds : List Round
-  pub works : WorksThrough t locals rounds before after log log'
+  pub works : WorksThrough t locals rounds before after port port'
   pub counted : tally ≡ tally_after (no_tally tally.end) rounds
   pub end : IsEnd limit turns rounds tally.end
 
@@ -200,3 +227,12 @@ pub record Worked (t : Table) (locals : List Endpoint) (limit turns : ℕ) (befo
   pub rounds : List Round
   pub worked : (config : ℕ → ConfigParts) → ReadsRows config (worker_steps after) →
       HasWorked config (size_of t) locals limit turns rounds (worker_steps before) (worker_steps after) log log' tally
+
+-- What a whole work took from its port: the log, the tally and the end are those of rounds, and what is still to come is what they
+-- left of what was to come
+pub record HasGiven {S : Type 0} (limit turns : ℕ) (port port' : PortShown S) (tally : Tally) : Type 0 where
+  pub rounds : List Round
+  pub written : Grows port.log port'.log (all_entries rounds ++ done ∷ [])
+  pub counted : tally ≡ tally_after (no_tally tally.end) rounds
+  pub end : IsEnd limit turns rounds tally.end
+  pub given : GivesAway port.coming port'.coming (all_given rounds)

@@ -1,6 +1,8 @@
 //! The loop of a worker.
 
-ghost use Rattle.std.specs.Prelude.{◌≡◌, ◌+◌, ◌≤◌, ◌<◌, length, None};
+ghost use Rattle.std.specs.Prelude.{◌≡◌, ◌+◌, ◌≤◌, ◌<◌, ◌∷◌, length, None};
+ghost use Rattle.session_world.specs.declared.steps.Step.TheVariants.{Retire};
+ghost use Rattle.session_world.specs.Answers.{worker_answers};
 ghost use Rattle.session_world.specs.Worker.{announced};
 ghost use Rattle.session_rule.specs.Seats.{size_of, IsWorkerOf, IsWorkerOfOneSchedule, worker_number, worker_steps};
 ghost use Rattle.session_table.specs.Knowing.{AreRead};
@@ -9,7 +11,7 @@ ghost use Rattle.session_table.specs.Holding.{HoldsNothing};
 ghost use Rattle.receive_worker.specs.Accounts.{Accounts};
 ghost use Rattle.receive_worker.specs.Buffers.{kept_rows};
 ghost use Rattle.receive_worker.specs.Faults.{RisesBy};
-ghost use Rattle.receive_worker.specs.Work.{IsRound, IsWork, Worked, failures_of};
+ghost use Rattle.receive_worker.specs.Work.{HasGiven, IsRound, IsWork, Worked, failures_of};
 
 use crate::buffers::Buffers;
 use crate::tally::{Begun, Tally, due, failed_in_a_row};
@@ -20,6 +22,19 @@ use reflect_core::Datagram;
 use session_rule::{Table, WorkerSeat};
 use session_table::{law_reads, retire};
 use session_world::law_rows_read;
+
+/// Lets go of the rows that are kept, which another seat may have read, and of the slot that this one may still announce.
+fn begin(table: &Table, seat: &mut WorkerSeat, buffers: &mut Buffers)
+    requires same { IsWorkerOf table.now seat.old }
+    ensures retired { announced (worker_steps seat.new) ≡ None }
+    ensures nothing { HoldsNothing (worker_steps seat.new) }
+    ensures seat { HasCome table.now seat.old seat.new (Retire ∷ worker_steps seat.old) }
+    ensures answers { worker_answers (size_of table.now).slots (worker_steps seat.new) ≡ worker_answers (size_of table.now).slots (worker_steps seat.old) }
+    ensures read { AreRead (kept_rows buffers.new) (worker_steps seat.new) }
+{
+    buffers.known.forget();
+    retire(table, seat);
+}
 
 /// Calls `recv`, and answers the datagram that it gives.
 fn round<P: Port>(
@@ -40,7 +55,7 @@ fn round<P: Port>(
     ensures nothing { HoldsNothing (worker_steps seat.new) }
     ensures retired { announced (worker_steps seat.new) ≡ None }
     ensures read { AreRead (kept_rows buffers.new) (worker_steps seat.new) }
-    ensures round { IsRound table.now locals.now seat.old seat.new (P.shown port.old).log (P.shown port.new).log result }
+    ensures round { IsRound table.now locals.now seat.old seat.new (P.shown port.old) (P.shown port.new) result }
     ensures bound { (P.shown port.new).bound ≡ (P.shown port.old).bound }
     ensures made { (P.shown port.new).made ≡ (P.shown port.old).made }
     ensures faults { RisesBy (failures_of result) (P.shown port.old).faults (P.shown port.new).faults }
@@ -82,7 +97,7 @@ fn take_all<P: Port>(
     ensures seat { HasCome table.now seat.old seat.new (worker_steps seat.new) }
     ensures nothing { HoldsNothing (worker_steps seat.new) }
     ensures retired { announced (worker_steps seat.new) ≡ None }
-    ensures works { IsWork table.now locals.now limit turns seat.old seat.new (P.shown port.old).log (P.shown port.new).log result }
+    ensures works { IsWork table.now locals.now limit turns seat.old seat.new (P.shown port.old) (P.shown port.new) result }
     ensures bound { (P.shown port.new).bound ≡ (P.shown port.old).bound }
     ensures made { (P.shown port.new).made ≡ (P.shown port.old).made }
     ensures faults { RisesBy (result.recv_fault + result.send_fault) (P.shown port.old).faults (P.shown port.new).faults }
@@ -123,14 +138,14 @@ pub fn work<P: Port>(
     requires locals { length locals.now ≤ 16 }
     ensures worked { Worked table.now locals.now limit turns seat.old seat.new (P.shown port.old).log (P.shown port.new).log result }
     ensures accounts { Accounts (size_of table.now).slots (worker_steps seat.old) (worker_steps seat.new) result }
+    ensures coming { HasGiven limit turns (P.shown port.old) (P.shown port.new) result }
     ensures bound { (P.shown port.new).bound ≡ (P.shown port.old).bound }
     ensures made { (P.shown port.new).made ≡ (P.shown port.old).made }
     ensures faults { RisesBy (result.recv_fault + result.send_fault) (P.shown port.old).faults (P.shown port.new).faults }
 {
     law_rows_read();
     let _size = table.size();
-    buffers.known.forget();
-    retire(table, seat);
+    begin(table, seat, buffers);
     let tally = take_all(table, seat, port, locals, limit, turns, buffers);
     port.done();
     tally

@@ -19,7 +19,7 @@ invariant-rounds g l = record {
   bound : (g.P.Port.shown l.port).bound ≡ (g.P.Port.shown l.fn.port).bound;
   made : (g.P.Port.shown l.port).made ≡ (g.P.Port.shown l.fn.port).made;
   faults : RisesBy (l.tally.recv_fault + l.tally.send_fault) (g.P.Port.shown l.fn.port).faults (g.P.Port.shown l.port).faults;
-  going : Going l.table l.locals l.limit l.turns l.fn.seat l.seat (g.P.Port.shown l.fn.port).log (g.P.Port.shown l.port).log l.tally l.calls l.failed;
+  going : Going l.table l.locals l.limit l.turns l.fn.seat l.seat (g.P.Port.shown l.fn.port) (g.P.Port.shown l.port) l.tally l.calls l.failed;
   room : AddsUp l.calls l.tally;
   range : l.calls < l.turns;
   short : l.failed ≤ l.calls;

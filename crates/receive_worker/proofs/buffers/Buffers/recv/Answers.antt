@@ -1,5 +1,5 @@
 use Rattle.std.proofs.lemmas.Grind.{common_steps}
-use Rattle.std.proofs.Common.{arith, ◌≡◌, List, ◌++◌, take, drop, length, Ok, subst}
+use Rattle.std.proofs.Common.{arith, ◌≡◌, List, take, drop, length, Ok, subst}
 use Rattle.refl_types.specs.declared.types.Meta.{Meta}
 use Rattle.net_io.specs.declared.port.Got.TheVariants.{Datagram}
 use Rattle.receive_worker.specs.Turn.{LastTook}
