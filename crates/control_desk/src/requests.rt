@@ -1,12 +1,10 @@
 //! A Request-TW-Session: which local takes the session (RFC 5357, section 3.5).
 
-ghost use Rattle.std.specs.Prelude.{◌≡◌, ◌≤◌, ◌++◌, [], List, length, IsTrue};
+ghost use Rattle.std.specs.Prelude.{◌≡◌, ◌≤◌, ◌++◌, [], List, length};
 ghost use Rattle.std.specs.List.{list_any};
 ghost use Rattle.refl_types.specs.Same.{same_address};
 ghost use Rattle.twamp_control.specs.declared.types.DeskAnswer.{DeskAnswer as DeclaredAnswer};
 ghost use Rattle.twamp_control.specs.declared.types.DeskAnswer.TheVariants as answers;
-ghost use Rattle.twamp_control.specs.declared.types.Ask.TheVariants as ask;
-ghost use Rattle.twamp_control.specs.Table.{fits};
 ghost use Rattle.session_desk.specs.Book.{IsBookOf};
 ghost use Rattle.control_desk.specs.declared.counts.Counts as declared;
 ghost use Rattle.control_desk.specs.declared.sides.ControlSide.{ControlSide as DeclaredSide};
@@ -314,7 +312,6 @@ pub(crate) fn reserve_session<D: Shown>(
     requires book { IsBookOf table.now book.old }
     requires few { length locals.now ≤ 16 }
     ensures book { IsBookOf table.now book.new }
-    ensures fits { IsTrue (fits (ask.Reserve request.now) result) }
     ensures machine { side.new.machine ≡ side.old.machine }
     ensures done { (f : Setting) (d : DeskView D.Setup D D.steps) (n : declared.Counts) (next : DeclaredAnswer → DeclaredSide → Plan) →
         f.locals ≡ locals.now → f.twamp ≡ twamp.now →

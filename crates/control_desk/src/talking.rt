@@ -1,8 +1,7 @@
 //! What the messages of a control connection do.
 
-ghost use Rattle.std.specs.Prelude.{◌≡◌, ◌≤◌, [], ◌∷◌, List, length, drop, IsTrue, if◌then◌else◌};
+ghost use Rattle.std.specs.Prelude.{◌≡◌, ◌≤◌, [], ◌∷◌, List, length, drop, if◌then◌else◌};
 ghost use Rattle.twamp_control.specs.Connection.{unless_hung_up};
-ghost use Rattle.twamp_control.specs.Table.{ask_of, fits};
 ghost use Rattle.session_rule.specs.declared.seats.Table.{Table};
 ghost use Rattle.session_desk.specs.Book.{Book, IsBookOf};
 ghost use Rattle.control_desk.specs.declared.sides.ControlSide.{ControlSide as DeclaredSide};
@@ -52,7 +51,6 @@ fn reply<D: Shown>(
     answer: &DeskAnswer,
 ) -> bool
     requires book { IsBookOf hands.old.table.now hands.old.book.now }
-    requires fits { IsTrue (fits (ask_of side.old.machine message.now) answer.now) }
     ensures same { AreSame hands.old hands.new }
     ensures book { IsBookOf hands.new.table.now hands.new.book.now }
     ensures done { (more : DeclaredSide → Plan) (gone : Plan) →
@@ -84,7 +82,6 @@ fn do_asked<D: Shown>(
     requires book { IsBookOf hands.old.table.now hands.old.book.now }
     ensures same { AreSame hands.old hands.new }
     ensures book { IsBookOf hands.new.table.now hands.new.book.now }
-    ensures fits { IsTrue (fits (ask_of side.new.machine message.now) result) }
     ensures done { (more : DeclaredSide → Plan) (gone : Plan) →
         Works D.seen (message_plan setting.now heard.conn heard.now more gone side.old (message.now ∷ [])) (reply_plan heard.conn heard.now more gone message.now side.new result) hands.old hands.new }
 {

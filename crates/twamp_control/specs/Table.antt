@@ -2,7 +2,7 @@
 -- connection goes on (RFC 5357, sections 3.1, 3.5, 3.7 and 3.8; RFC 4656, sections 3.1 and 3.3). What a Start-Sessions
 -- does without a session, what a Stop-Sessions does in stage Idle, and that a message out of turn is answered by a
 -- hang-up alone, is this project's own.
-use Rattle.std.specs.Prelude.{◌≡◌, ℕ, ◌+◌, ◌-◌, ◌^◌, ◌≤◌, min, Bool, true, false, ◌==◌, ◌||◌, List, [], ◌++◌, length, drop, replicate, Result, Ok, Err, if◌then◌else◌}
+use Rattle.std.specs.Prelude.{◌≡◌, ℕ, ◌+◌, ◌-◌, ◌^◌, ◌≤◌, min, ◌==◌, List, [], ◌++◌, length, drop, replicate, Result, Ok, Err, if◌then◌else◌}
 use Rattle.std.specs.Int.{w32, w64, to_be_bytes}
 use Rattle.octet_format.specs.Octets.{field}
 use Rattle.refl_types.specs.declared.outcome.Place.{Place}
@@ -18,8 +18,6 @@ use Rattle.twamp_control.specs.declared.types.Stage.TheVariants.{SettingUp, Idle
 use Rattle.twamp_control.specs.declared.types.Ask.{Ask}
 use Rattle.twamp_control.specs.declared.types.Ask.TheVariants.{Reserve, StartAll, StopAll, Nothing, HangUp}
 use Rattle.twamp_control.specs.declared.types.DeskAnswer.{DeskAnswer}
-use Rattle.control_msgs.specs.declared.codes.Accept.{Accept}
-use Rattle.control_msgs.specs.declared.codes.Accept.TheVariants.{Accepted, Failure, InternalError, NotSupported, PermanentLimit, TemporaryLimit}
 use Rattle.control_msgs.specs.Codes.{accept_code}
 use Rattle.twamp_control.specs.declared.types.DeskAnswer.TheVariants.{Reserved, Refused, Done}
 use Rattle.twamp_control.specs.declared.types.Stepped.{Stepped}
@@ -42,23 +40,6 @@ ask_in stage message = HangUp
 
 abbrev pub ask_of : Connection → Message → Ask
 ask_of c message = ask_in c.stage message
-
--- a reservation is refused for want of support or of room
-abbrev pub is_refusal : Accept → Bool
-is_refusal Accepted = false
-is_refusal Failure = false
-is_refusal InternalError = false
-is_refusal NotSupported = true
-is_refusal PermanentLimit = true
-is_refusal TemporaryLimit = true
-
--- a reservation is made or refused with 3, 4 or 5; anything else is done
-abbrev pub fits : Ask → DeskAnswer → Bool
-fits (Reserve r) (Reserved place port) = true
-fits (Reserve r) (Refused accept) = is_refusal accept
-fits (Reserve r) Done = false
-fits ask Done = true
-fits ask answer = false
 
 -- ---- what is sent, and how the connection goes on
 

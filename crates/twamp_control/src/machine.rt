@@ -1,11 +1,10 @@
 //! The machine of a connection: it holds octets until a message is whole, and goes from stage to stage.
 
-ghost use Rattle.std.specs.Prelude.{◌≡◌, ◌<◌, ◌++◌, IsTrue, length, slice_index};
+ghost use Rattle.std.specs.Prelude.{◌≡◌, ◌<◌, ◌++◌, length, slice_index};
 ghost use Rattle.twamp_control.specs.Connection.{Feeds, opened};
 ghost use Rattle.twamp_control.specs.Table.{
   Steps,
   ask_of,
-  fits,
   request_row,
   row_of,
   set_up_row,
@@ -149,7 +148,8 @@ impl Machine {
 
     /// Writes the reply to a message at the front of `out`, and goes on to the next stage. `answer` is what was done
     /// of what `ask` said, and `now` is the moment of the message, in nanoseconds since the start of 1970: the SID of
-    /// a reserved session is its slot, its generation and this moment. The rest of `out` stays.
+    /// a reserved session is its slot, its generation and this moment. To a request, `Done` is a refusal with 3; to any
+    /// other message the answer isn't looked at. The rest of `out` stays.
     pub fn step(
         &mut self,
         message: &Message,
@@ -157,7 +157,6 @@ impl Machine {
         now: u64,
         out: &mut [u8; 64],
     ) -> Stepped
-        requires { IsTrue (fits (ask_of self.old message.now) answer.now) }
         ensures { Steps (row_of self.old message.now answer.now now) out.old out.new self.new result }
     {
         match (self.stage, message) {

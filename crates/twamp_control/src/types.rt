@@ -2,7 +2,6 @@
 
 ghost use Rattle.std.specs.Prelude.{◌≡◌};
 ghost use Rattle.twamp_control.specs.Connection.{is_hung_up};
-ghost use Rattle.twamp_control.specs.Table.{fits};
 
 use control_msgs::{Accept, REQUEST_LEN, Request};
 use refl_types::Place;
@@ -76,22 +75,5 @@ impl Stage {
         ensures { result ≡ is_hung_up self }
     {
         matches!(self, Stage::HungUp)
-    }
-}
-
-impl DeskAnswer {
-    /// Whether this answers what was asked: a reservation is made, or refused for want of support or of room; all else is done.
-    pub fn fits(&self, ask: &Ask) -> bool
-        ensures { result ≡ fits ask.now self.now }
-    {
-        match (ask, self) {
-            (Ask::Reserve(_), DeskAnswer::Reserved { .. }) => true,
-            (Ask::Reserve(_), DeskAnswer::Refused(accept)) => matches!(
-                *accept,
-                Accept::NotSupported | Accept::PermanentLimit | Accept::TemporaryLimit
-            ),
-            (Ask::Reserve(_), DeskAnswer::Done) => false,
-            (_, answer) => matches!(answer, DeskAnswer::Done),
-        }
     }
 }
