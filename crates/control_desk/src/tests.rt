@@ -9,15 +9,14 @@ mod clients;
 mod operators;
 mod runs;
 
-use crate::{DeskRoom, DeskTally, run_desk};
-use conf_text::read_conf;
+use crate::{DeskEnd, DeskRoom, DeskTally, run_desk};
+use conf_text::{Conf, read_conf};
 use net_io::{ConnKind, Desk, DeskDeed, DeskEvent, DeskItem, PIECE_ROOM, ScriptDesk};
 use refl_types::Address;
 use session_desk::DeskBook;
 use session_rule::{Table, TableSize, open_table};
 use std::alloc::Global;
 use std::process::Abort;
-use std::test::Fail;
 
 const FILE: &str = "locals = [\"192.0.2.10:862\"]\ntwamp = \"edge\"\n[configs.edge]\n";
 
@@ -48,21 +47,21 @@ impl Script {
         }
     }
 
-    fn gives(&mut self, rt: &impl Abort, alloc: Global, moment: u64, conn: u32, octets: &[u8]) {
-        assert!(rt; octets.len() <= PIECE_ROOM);
+    fn gives(&mut self, stop: &impl Abort, alloc: Global, moment: u64, conn: u32, octets: &[u8]) {
+        assert!(stop; octets.len() <= PIECE_ROOM);
         let item = DeskItem {
             moment,
             event: DeskEvent::Bytes {
                 conn,
                 len: octets.len(),
             },
-            octets: Vec::from_slice(alloc, octets).expect(rt, "octets"),
+            octets: Vec::from_slice(alloc, octets).expect(stop, "octets"),
         };
-        self.items.push(item).expect(rt, "room");
+        self.items.push(item).expect(stop, "room");
     }
 
     /// Adds an event that comes without octets.
-    fn tells(&mut self, rt: &impl Abort, alloc: Global, moment: u64, event: DeskEvent)
+    fn tells(&mut self, stop: &impl Abort, alloc: Global, moment: u64, event: DeskEvent)
         requires { octet_count event ≡ 0 }
     {
         let item = DeskItem {
@@ -70,10 +69,10 @@ impl Script {
             event,
             octets: Vec::new(alloc),
         };
-        self.items.push(item).expect(rt, "room");
+        self.items.push(item).expect(stop, "room");
     }
 
-    fn add(&mut self, rt: &impl Abort, alloc: Global, moment: u64, happens: &Happens) {
+    fn add(&mut self, stop: &impl Abort, alloc: Global, moment: u64, happens: &Happens) {
         match *happens {
             Happens::Opens(conn, kind) => {
                 let event = DeskEvent::Opened {
@@ -82,16 +81,16 @@ impl Script {
                     peer: CLIENT,
                     local: SERVER,
                 };
-                self.tells(rt, alloc, moment, event)
+                self.tells(stop, alloc, moment, event)
             }
-            Happens::Gives(conn, octets) => self.gives(rt, alloc, moment, conn, octets),
-            Happens::Closes(conn) => self.tells(rt, alloc, moment, DeskEvent::Closed { conn }),
-            Happens::Ticks => self.tells(rt, alloc, moment, DeskEvent::Tick),
+            Happens::Gives(conn, octets) => self.gives(stop, alloc, moment, conn, octets),
+            Happens::Closes(conn) => self.tells(stop, alloc, moment, DeskEvent::Closed { conn }),
+            Happens::Ticks => self.tells(stop, alloc, moment, DeskEvent::Tick),
         }
     }
 }
 
-/// A desk after its run, and the book.
+/// A desk after its run, and how many sessions are live.
 #[derive(Drop)]
 struct Played {
     tally: DeskTally,
@@ -100,7 +99,7 @@ struct Played {
 }
 
 /// A table of as many slots, with four rows and no worker of its own, and its book.
-fn table_of(rt: &impl Abort, alloc: Global, slots: u32) -> (Table, DeskBook)
+fn table_of(stop: &impl Abort, alloc: Global, slots: u32) -> (Table, DeskBook)
     ensures { IsBookOf result.0 result.1 }
 {
     let size = TableSize {
@@ -108,8 +107,8 @@ fn table_of(rt: &impl Abort, alloc: Global, slots: u32) -> (Table, DeskBook)
         rows: 4,
         workers: 1,
     };
-    let (table, seat) = open_table(alloc, size).expect(rt, "a table");
-    let book = DeskBook::make(alloc, seat, size).expect(rt, "a book");
+    let (table, seat) = open_table(alloc, size).expect(stop, "a table");
+    let book = DeskBook::make(alloc, seat, size).expect(stop, "a book");
     (table, book)
 }
 
@@ -128,22 +127,47 @@ const NO_LIMITS: Limits = Limits {
     turns: 10_000,
 };
 
-/// Runs a desk of that file, on a table of as many slots.
-fn run(
-    rt: &impl Abort,
-    alloc: Global,
-    file: &str,
+/// The file of a desk, the slots of its table, and what fails.
+#[derive(Clone, Copy)]
+struct Setup<'a> {
+    file: &'a str,
     slots: u32,
-    script: Script,
-    limits: &Limits,
-) -> Played {
-    let (table, mut book) = table_of(rt, alloc, slots);
+    limits: Limits<'a>,
+}
+
+/// A table of one slot, and nothing fails.
+const ONE_SLOT: Setup = Setup {
+    file: FILE,
+    slots: 1,
+    limits: NO_LIMITS,
+};
+
+fn room_of(stop: &impl Abort, alloc: Global, file: &str) -> DeskRoom {
     let Ok(conf) = read_conf(alloc, file.as_bytes()) else {
-        panic!(rt; "a file");
+        panic!(stop; "a file");
     };
-    let mut room = DeskRoom::make(alloc, &conf).expect(rt, "a room");
-    let fail_next = Vec::from_slice(alloc, limits.fail_next).expect(rt, "numbers");
-    let fail_send = Vec::from_slice(alloc, limits.fail_send).expect(rt, "numbers");
+    let room = DeskRoom::make(alloc, &conf).expect(stop, "a room");
+    let_conf_go(conf);
+    room
+}
+
+fn let_conf_go(_conf: Conf) {}
+
+/// A desk that is open and tells what happens at these moments.
+fn desk_of(
+    stop: &impl Abort,
+    alloc: Global,
+    limits: &Limits,
+    events: &[(u64, Happens)],
+) -> ScriptDesk
+    ensures { IsTrue result.is_open }
+{
+    let mut script = Script::new(alloc);
+    for (moment, happens) in events {
+        script.add(stop, alloc, *moment, happens);
+    }
+    let fail_next = Vec::from_slice(alloc, limits.fail_next).expect(stop, "numbers");
+    let fail_send = Vec::from_slice(alloc, limits.fail_send).expect(stop, "numbers");
     let mut desk = ScriptDesk::make(
         alloc,
         script.items,
@@ -153,39 +177,32 @@ fn run(
         4_000,
         200_000,
     )
-    .expect(rt, "a desk");
-    desk.open(None, None).expect(rt, "open");
-    let tally = run_desk(&table, &mut book, &mut room, &mut desk, limits.turns);
-    Played {
-        tally,
-        desk,
-        live: book.live_len(),
-    }
+    .expect(stop, "a desk");
+    desk.open(None, None).expect(stop, "open");
+    desk
 }
 
-/// Runs a desk of that file over what happens at these moments.
-fn play(
-    rt: &impl Abort,
-    alloc: Global,
-    file: &str,
-    slots: u32,
-    events: &[(u64, Happens)],
-    limits: &Limits,
-) -> Played {
-    let mut script = Script::new(alloc);
-    for (moment, happens) in events {
-        script.add(rt, alloc, *moment, happens);
-    }
-    run(rt, alloc, file, slots, script, limits)
+fn let_table_go(_table: Table, _book: DeskBook, _room: DeskRoom) {}
+
+/// Runs a desk over what happens at these moments.
+fn play(stop: &impl Abort, alloc: Global, setup: &Setup, events: &[(u64, Happens)]) -> Played {
+    let (table, mut book) = table_of(stop, alloc, setup.slots);
+    let mut room = room_of(stop, alloc, setup.file);
+    let mut desk = desk_of(stop, alloc, &setup.limits, events);
+    let turns = setup.limits.turns;
+    let tally = run_desk(&table, &mut book, &mut room, &mut desk, turns);
+    let live = book.live_len();
+    let_table_go(table, book, room);
+    Played { tally, desk, live }
 }
 
 /// The octets that were sent on a connection, in a row.
-fn sent(rt: &impl Abort, alloc: Global, played: &Played, conn: u32) -> Vec<u8> {
+fn sent(stop: &impl Abort, alloc: Global, played: &Played, conn: u32) -> Vec<u8> {
     let mut all = Vec::new(alloc);
     for at in 0..4_000 {
         if let Some((deed, octets)) = played.desk.entry(at) {
             if deed == (DeskDeed::Sent { conn }) {
-                all.extend_from_slice(octets).expect(rt, "room");
+                all.extend_from_slice(octets).expect(stop, "room");
             }
         }
     }
@@ -205,40 +222,88 @@ fn hang_ups(played: &Played, conn: u32) -> u32 {
     count
 }
 
-/// Ends a test where something else was sent on a connection.
+/// What a run has to come to.
+#[derive(Clone, Copy)]
+enum Wanted<'a> {
+    /// These octets were sent on this connection.
+    Sent(u32, &'a [u8]),
+    /// This connection was hung up as often.
+    HungUp(u32, u64),
+    /// So many sessions are live, were closed, and have expired.
+    Sessions(u32, u64, u64),
+    /// So many events were taken.
+    Events(u64),
+    /// So many calls of the desk failed.
+    Faults(u64),
+    /// The desk ended so.
+    Ends(DeskEnd),
+}
+
 fn expect_sent(
-    rt: &impl Abort,
+    stop: &impl Abort,
     alloc: Global,
     played: &Played,
     conn: u32,
-    text: &[u8],
+    octets: &[u8],
     case: usize,
 ) {
-    let all = sent(rt, alloc, played, conn);
-    assert_eq!(rt; all.as_slice(), text, "case {case}");
+    let all = sent(stop, alloc, played, conn);
+    assert_eq!(stop; all.as_slice(), octets, "case {case}");
 }
 
-/// How often a connection was hung up, and how many sessions are live, were closed, and have expired.
-type Ends = (u32, u32, u64, u64);
+fn expect_number(stop: &impl Abort, found: u64, wanted: u64, case: usize) {
+    assert_eq!(stop; found, wanted, "case {case}");
+}
+
+fn expect_sessions(stop: &impl Abort, played: &Played, wanted: (u32, u64, u64), case: usize) {
+    let found = (played.live, played.tally.closed, played.tally.expired);
+    assert_eq!(stop; found, wanted, "case {case}");
+}
+
+fn expect_end(stop: &impl Abort, found: DeskEnd, wanted: DeskEnd, case: usize) {
+    assert_eq!(stop; found, wanted, "case {case}");
+}
 
 /// Ends a test where a run has come to something else.
-fn expect_ends(rt: &impl Abort, played: &Played, conn: u32, ends: Ends, case: usize) {
-    let tally = &played.tally;
-    let found = (
-        hang_ups(played, conn),
-        played.live,
-        tally.closed,
-        tally.expired,
-    );
-    assert_eq!(rt; found, ends, "case {case}");
+fn expect(stop: &impl Abort, alloc: Global, played: &Played, wanted: &Wanted, case: usize) {
+    match *wanted {
+        Wanted::Sent(conn, octets) => expect_sent(stop, alloc, played, conn, octets, case),
+        Wanted::HungUp(conn, count) => {
+            expect_number(stop, u64::from(hang_ups(played, conn)), count, case)
+        }
+        Wanted::Sessions(live, closed, expired) => {
+            expect_sessions(stop, played, (live, closed, expired), case)
+        }
+        Wanted::Events(count) => expect_number(stop, played.tally.events, count, case),
+        Wanted::Faults(count) => expect_number(stop, played.tally.faults, count, case),
+        Wanted::Ends(end) => expect_end(stop, played.tally.end, end, case),
+    }
+}
+
+fn let_run_go(_played: Played) {}
+
+/// Runs a desk, and ends the test where the run comes to anything else.
+fn expect_run(
+    stop: &impl Abort,
+    alloc: Global,
+    setup: &Setup,
+    events: &[(u64, Happens)],
+    wanted: &[Wanted],
+    case: usize,
+) {
+    let played = play(stop, alloc, setup, events);
+    for wanted in wanted {
+        expect(stop, alloc, &played, wanted, case);
+    }
+    let_run_go(played);
 }
 
 /// A second, in nanoseconds.
 const SECOND: u64 = 1_000_000_000;
 
 /// Octets from a place to another.
-fn part<'a>(rt: &impl Abort, octets: &'a [u8], from: usize, to: usize) -> &'a [u8] {
-    assert!(rt; from <= to && to <= octets.len());
+fn part<'a>(stop: &impl Abort, octets: &'a [u8], from: usize, to: usize) -> &'a [u8] {
+    assert!(stop; from <= to && to <= octets.len());
     &octets[from..to]
 }
 
@@ -281,7 +346,7 @@ fn server_octets() -> [u8; 192] {
 
 /// What happens where octets come one by one behind an event, at one moment.
 fn one_by_one<'a>(
-    rt: &impl Abort,
+    stop: &impl Abort,
     alloc: Global,
     first: (u64, Happens<'a>),
     moment: u64,
@@ -289,12 +354,12 @@ fn one_by_one<'a>(
     octets: &'a [u8],
 ) -> Vec<(u64, Happens<'a>)> {
     let mut events = Vec::new(alloc);
-    events.push(first).expect(rt, "room");
+    events.push(first).expect(stop, "room");
     for at in 0..octets.len() {
         let piece = &octets[at..at + 1];
         events
             .push((moment, Happens::Gives(conn, piece)))
-            .expect(rt, "room");
+            .expect(stop, "room");
     }
     events
 }

@@ -36,26 +36,17 @@ fn the_first_field_that_fails_is_named(rt: HostRuntime) {
     }
 }
 
+const REQUEST: [u8; 112] = [
+    5, 0xF4, 0, 0, 0, 0, 0, 0, 0, 0, 0, 0, 0x17, 0x70, 0x13, 0x89, 0xC0, 0, 2, 1, 7, 0, 0, 0, 0, 0,
+    0, 0, 0, 0, 0, 0, 0, 0, 0, 0, 9, 0, 0, 0, 0, 0, 0, 0, 0, 0, 0, 0, 0, 0, 0, 0, 0, 0, 0, 0, 0, 0,
+    0, 0, 0, 0, 0, 0, 0, 0, 0, 0, 0, 0, 0, 0, 0, 0, 0, 0, 0, 0, 0, 2, 0, 0, 0, 0, 0, 0, 0, 0, 0xAB,
+    0xCD, 0, 4, 0, 0, 0, 0, 0, 0, 0, 0, 0, 0, 0, 0, 0, 0, 0, 0, 0, 0, 0, 0,
+];
+
 #[test]
 fn a_request_is_read_by_its_places(rt: HostRuntime) {
-    let octets = request_with(&[
-        (1, 0xF4),
-        (12, 0x17),
-        (13, 0x70),
-        (14, 0x13),
-        (15, 0x89),
-        (16, 192),
-        (18, 2),
-        (19, 1),
-        (20, 7),
-        (36, 9),
-        (79, 2),
-        (88, 0xAB),
-        (89, 0xCD),
-        (91, 4),
-    ]);
     assert_eq!(rt;
-        read_request(&octets),
+        read_request(&REQUEST),
         Ok(Request {
             sender: Some(Address::V4([192, 0, 2, 1])),
             receiver: None,
@@ -67,64 +58,87 @@ fn a_request_is_read_by_its_places(rt: HostRuntime) {
             reflect: 4,
         })
     );
-    assert_eq!(rt; octets_to_reflect(&octets), [0xAB, 0xCD]);
+    assert_eq!(rt; octets_to_reflect(&REQUEST), [0xAB, 0xCD]);
 }
+
+const GREETING: [u8; 64] = [
+    0, 0, 0, 0, 0, 0, 0, 0, 0, 0, 0, 0, 0, 0, 0, 0x61, 0, 0, 0, 0, 0, 0, 0, 0, 0, 0, 0, 0, 0, 0, 0,
+    0, 0, 0, 0, 0, 0, 0, 0, 0, 0, 0, 0, 0, 0, 0, 0, 0, 0, 0, 4, 0, 0, 0, 0, 0, 0, 0, 0, 0, 0, 0, 0,
+    0,
+];
+
+const SERVER_START: [u8; 48] = [
+    0, 0, 0, 0, 0, 0, 0, 0, 0, 0, 0, 0, 0, 0, 0, 3, 0, 0, 0, 0, 0, 0, 0, 0, 0, 0, 0, 0, 0, 0, 0, 0,
+    0x83, 0xAA, 0x7E, 0x80, 0x80, 0, 0, 0, 0, 0, 0, 0, 0, 0, 0, 0,
+];
+
+const SID: [u8; 16] = [0, 0, 0, 0, 0, 0, 0, 1, 0, 0, 0, 1, 0x2A, 5, 0xF2, 0];
+
+const ACCEPT: [u8; 48] = [
+    0, 0, 3, 0x5E, 0, 0, 0, 0, 0, 0, 0, 1, 0, 0, 0, 1, 0x2A, 5, 0xF2, 0, 0xAB, 0xCD, 0, 0, 0, 0, 0,
+    0, 0, 0, 0, 0, 0, 0, 0, 0, 0, 0, 0, 0, 0, 0, 0, 0, 0, 0, 0, 0,
+];
+
+const START_ACK: [u8; 32] = [
+    1, 0, 0, 0, 0, 0, 0, 0, 0, 0, 0, 0, 0, 0, 0, 0, 0, 0, 0, 0, 0, 0, 0, 0, 0, 0, 0, 0, 0, 0, 0, 0,
+];
 
 #[test]
 fn what_a_server_writes(rt: HostRuntime) {
     let mut greeting = [0xEE; 64];
     write_greeting(&mut greeting);
-    let mut want = [0; 64];
-    want[15] = 97;
-    want[50] = 4;
-    assert_eq!(rt; greeting, want);
+    assert_eq!(rt; greeting, GREETING);
 
     let mut start = [0xEE; 48];
     write_server_start(3, 500_000_000, &mut start);
-    let mut want = [0; 48];
-    want[15] = 3;
-    want[32..40].copy_from_slice(&[0x83, 0xAA, 0x7E, 0x80, 0x80, 0, 0, 0]);
-    assert_eq!(rt; start, want);
+    assert_eq!(rt; start, SERVER_START);
 
     let mut accept = [0xEE; 48];
-    let sid = [0, 0, 0, 0, 0, 0, 0, 1, 0, 0, 0, 1, 0x2A, 0x05, 0xF2, 0];
-    write_accept(0, 862, &sid, &[0xAB, 0xCD], &mut accept);
-    let mut want = [0; 48];
-    want[2] = 0x03;
-    want[3] = 0x5E;
-    want[4..20].copy_from_slice(&sid);
-    want[20] = 0xAB;
-    want[21] = 0xCD;
-    assert_eq!(rt; accept, want);
+    write_accept(0, 862, &SID, &[0xAB, 0xCD], &mut accept);
+    assert_eq!(rt; accept, ACCEPT);
 
     let mut ack = [0xEE; 32];
     write_start_ack(1, &mut ack);
-    let mut want = [0; 32];
-    want[0] = 1;
-    assert_eq!(rt; ack, want);
+    assert_eq!(rt; ack, START_ACK);
 }
+
+const SET_UP: [u8; 164] = [
+    0, 0, 0, 0x61, 0, 0, 0, 0, 0, 0, 0, 0, 0, 0, 0, 0, 0, 0, 0, 0, 0, 0, 0, 0, 0, 0, 0, 0, 0, 0, 0,
+    0, 0, 0, 0, 0, 0, 0, 0, 0, 0, 0, 0, 0, 0, 0, 0, 0, 0, 0, 0, 0, 0, 0, 0, 0, 0, 0, 0, 0, 0, 0, 0,
+    0, 0, 0, 0, 0, 0, 0, 0, 0, 0, 0, 0, 0, 0, 0, 0, 0, 0, 0, 0, 0, 0, 0, 0, 0, 0, 0, 0, 0, 0, 0, 0,
+    0, 0, 0, 0, 0, 0, 0, 0, 0, 0, 0, 0, 0, 0, 0, 0, 0, 0, 0, 0, 0, 0, 0, 0, 0, 0, 0, 0, 0, 0, 0, 0,
+    0, 0, 0, 0, 0, 0, 0, 0, 0, 0, 0, 0, 0, 0, 0, 0, 0, 0, 0, 0, 0, 0, 0, 0, 0, 0, 0, 0, 0, 0, 0, 0,
+    0, 0, 0, 0, 0,
+];
+
+const START: [u8; 32] = [
+    2, 0, 0, 0, 0, 0, 0, 0, 0, 0, 0, 0, 0, 0, 0, 0, 0, 0, 0, 0, 0, 0, 0, 0, 0, 0, 0, 0, 0, 0, 0, 0,
+];
+
+const STOP: [u8; 32] = [
+    3, 0, 0, 0, 0, 0, 1, 2, 0, 0, 0, 0, 0, 0, 0, 0, 0, 0, 0, 0, 0, 0, 0, 0, 0, 0, 0, 0, 0, 0, 0, 0,
+];
+
+const ASKED: [u8; 112] = [
+    5, 6, 0, 0, 0, 0, 0, 0, 0, 0, 0, 0, 0x17, 0x70, 0, 0, 0, 0, 0, 0, 0, 0, 0, 0, 0, 0, 0, 0, 0, 0,
+    0, 0, 0, 0, 0, 0, 0, 0, 0, 0, 0, 0, 0, 0, 0, 0, 0, 7, 0, 0, 0, 0, 0, 0, 0, 0, 0, 0, 0, 0, 0, 0,
+    0, 0, 0, 0, 0, 0, 0, 0, 0, 0, 0, 0, 0, 0, 0, 0, 0, 2, 0x80, 0, 0, 0, 0, 0, 0, 0, 2, 2, 0, 0, 0,
+    0, 0, 0, 0, 0, 0, 0, 0, 0, 0, 0, 0, 0, 0, 0, 0, 0, 0, 0,
+];
 
 #[test]
 fn what_a_client_writes(rt: HostRuntime) {
     let mut set_up = [0xEE; 164];
     write_set_up(97, &mut set_up);
-    let mut want = [0; 164];
-    want[3] = 97;
-    assert_eq!(rt; set_up, want);
+    assert_eq!(rt; set_up, SET_UP);
 
     let mut start = [0xEE; 32];
     write_start(&mut start);
-    let mut want = [0; 32];
-    want[0] = 2;
-    assert_eq!(rt; start, want);
+    assert_eq!(rt; start, START);
 
     let mut stop = [0xEE; 32];
     write_stop(258, &mut stop);
-    let mut want = [0; 32];
-    want[0] = 3;
-    want[6] = 1;
-    want[7] = 2;
-    assert_eq!(rt; stop, want);
+    assert_eq!(rt; stop, STOP);
 
     let mut request = [0xEE; 112];
     write_request(
@@ -140,15 +154,5 @@ fn what_a_client_writes(rt: HostRuntime) {
         },
         &mut request,
     );
-    let want = request_with(&[
-        (1, 6),
-        (12, 0x17),
-        (13, 0x70),
-        (47, 7),
-        (79, 2),
-        (80, 0x80),
-        (88, 2),
-        (89, 2),
-    ]);
-    assert_eq!(rt; request, want);
+    assert_eq!(rt; request, ASKED);
 }

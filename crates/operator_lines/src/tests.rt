@@ -1,6 +1,5 @@
 use super::*;
 use refl_types::{Address, Endpoint, Key, Mode};
-use std::test::Fail;
 use text_forms::Name;
 
 const V4: Key = Key {
@@ -27,32 +26,47 @@ const CONFIG: &[u8] = b"config edge \
     0000000100000000000000280000000000000000000000000000000000000000000000000000\
     000000000000000000000000000000000000000000000000000000000000000000000000aBcD\n";
 
+/// The octets of that configuration.
+const OCTETS: [u8; 76] = [
+    0, 0, 0, 1, 0, 0, 0, 0, 0, 0, 0, 0x28, 0, 0, 0, 0, 0, 0, 0, 0, 0, 0, 0, 0, 0, 0, 0, 0, 0, 0, 0,
+    0, 0, 0, 0, 0, 0, 0, 0, 0, 0, 0, 0, 0, 0, 0, 0, 0, 0, 0, 0, 0, 0, 0, 0, 0, 0, 0, 0, 0, 0, 0, 0,
+    0, 0, 0, 0, 0, 0, 0, 0, 0, 0, 0, 0xAB, 0xCD,
+];
+
 #[test]
-fn each_kind_of_line_is_read(rt: HostRuntime) -> Result<(), Fail> {
-    let name = Name::make(b"edge").ok_or("a name")?;
-    let mut octets = [0; 76];
-    octets[3] = 1;
-    octets[11] = 0x28;
-    octets[74] = 0xab;
-    octets[75] = 0xcd;
-    let line = Line::Config { name, octets };
-    assert!(rt; read_line(CONFIG) == Ok(line));
-    let line = Line::Open {
-        key: V4,
-        name,
-        wait: 10_000_000_000,
-    };
-    assert!(rt; read_line(b"open 0 192.0.2.1:5000 plain 7 edge 10\n") == Ok(line));
-    let line = Line::Set { key: V4, name };
-    assert!(rt; read_line(b"set 0 192.0.2.1:5000 plain 7 edge\n") == Ok(line));
-    let line = Line::Close { key: V6 };
-    let text = b"close 65535 [2001:0db8:0000:0000:0000:0000:0000:0001]:862 twamp 0\n";
-    assert!(rt; read_line(text) == Ok(line));
-    let line = Line::Count { key: V4 };
-    assert!(rt; read_line(b"count 0 192.0.2.1:5000 plain 7\n") == Ok(line));
-    assert!(rt; read_line(b"list\n") == Ok(Line::List));
-    assert!(rt; read_line(b"quit\n") == Ok(Line::Quit));
-    Ok(())
+fn each_kind_of_line_is_read(rt: HostRuntime) {
+    let name = Name::make(b"edge").expect(&rt, "a name");
+    let lines: [(&[u8], Line); 7] = [
+        (
+            CONFIG,
+            Line::Config {
+                name,
+                octets: OCTETS,
+            },
+        ),
+        (
+            b"open 0 192.0.2.1:5000 plain 7 edge 10\n",
+            Line::Open {
+                key: V4,
+                name,
+                wait: 10_000_000_000,
+            },
+        ),
+        (
+            b"set 0 192.0.2.1:5000 plain 7 edge\n",
+            Line::Set { key: V4, name },
+        ),
+        (
+            b"close 65535 [2001:0db8:0000:0000:0000:0000:0000:0001]:862 twamp 0\n",
+            Line::Close { key: V6 },
+        ),
+        (b"count 0 192.0.2.1:5000 plain 7\n", Line::Count { key: V4 }),
+        (b"list\n", Line::List),
+        (b"quit\n", Line::Quit),
+    ];
+    for (text, line) in lines {
+        assert!(rt; read_line(text) == Ok(line));
+    }
 }
 
 #[test]

@@ -1,6 +1,6 @@
 //! Measurements over scripted ports, where memory is ample. Values are worked out by hand.
 
-ghost use Rattle.std.specs.Prelude.{◌≡◌, All, IfOk};
+ghost use Rattle.std.specs.Prelude.{◌≡◌, All};
 ghost use Rattle.net_io.specs.ScriptPort.{IsWhole};
 
 use crate::{Probe, run_probe};
@@ -8,7 +8,7 @@ use net_io::{Got, Port, PortDeed, PortItem, ScriptPort};
 use port_io::{Failed, MemSink};
 use refl_types::{Address, Endpoint, LocalAddr, Meta};
 use std::alloc::Global;
-use std::test::Fail;
+use std::process::Abort;
 
 const LOCAL: Endpoint = Endpoint {
     address: Address::V4([192, 0, 2, 20]),
@@ -39,7 +39,7 @@ const REPLY: [u8; 44] = [
     0, 0, 0, 0, 0, 0, 0x83, 0xAA, 0x7E, 0x80, 0, 0, 0, 0, 0, 1, 0, 0, 0xFF, 0, 0, 0,
 ];
 
-const fn meta(peer: Endpoint) -> Meta
+fn meta(peer: Endpoint) -> Meta
     ensures { result.len ≡ 44 }
 {
     Meta {
@@ -52,33 +52,39 @@ const fn meta(peer: Endpoint) -> Meta
 }
 
 /// The reply from a peer at second 1.
-fn reply_from(alloc: Global, peer: Endpoint) -> Result<Vec<PortItem>, Fail>
-    ensures { IfOk result (λ items. All IsWhole items.items) }
+fn reply_from(stop: &impl Abort, alloc: Global, peer: Endpoint) -> Vec<PortItem>
+    ensures { All IsWhole result.items }
 {
-    let mut items = Vec::new(alloc);
-    items.push(PortItem::Datagram {
+    let octets = Vec::from_slice(alloc, &REPLY).expect(stop, "octets");
+    let item = PortItem::Datagram {
         meta: meta(peer),
-        octets: Vec::from_slice(alloc, &REPLY)?,
-    })?;
-    Ok(items)
+        octets,
+    };
+    let mut items = Vec::new(alloc);
+    items.push(item).expect(stop, "room");
+    items
 }
 
-/// Calls of a port that fail.
+/// Calls of a port that fail: of each kind so many, from the first on.
 #[derive(Clone, Copy)]
-enum Failing {
-    None,
-    Open,
-    Send,
-    /// So many calls of `recv`, from the first on.
-    Recv(u64),
+struct Failing {
+    opens: u64,
+    sends: u64,
+    receives: u64,
 }
 
-fn up_to(alloc: Global, last: u64) -> Result<Vec<u64>, Fail> {
+const NONE: Failing = Failing {
+    opens: 0,
+    sends: 0,
+    receives: 0,
+};
+
+fn up_to(stop: &impl Abort, alloc: Global, last: u64) -> Vec<u64> {
     let mut calls = Vec::new(alloc);
     for call in 1..=last {
-        calls.push(call)?;
+        calls.push(call).expect(stop, "room");
     }
-    Ok(calls)
+    calls
 }
 
 /// The clock says second 0 at first, and second 2 at the second turn.
@@ -86,74 +92,115 @@ const CLOCK: [u64; 3] = [0, 0, 2_000_000_000];
 
 /// A port that gives these items, and then its end. Its clock says these moments, and then the last again.
 fn port_at(
+    stop: &impl Abort,
     alloc: Global,
     clock: &[u64],
     items: Vec<PortItem>,
     failing: Failing,
-) -> Result<ScriptPort, Fail>
+) -> ScriptPort
     requires { All IsWhole items.items }
 {
-    let (opens, sends, receives) = match failing {
-        Failing::None => (0, 0, 0),
-        Failing::Open => (1, 0, 0),
-        Failing::Send => (0, 1, 0),
-        Failing::Recv(last) => (0, 0, last),
-    };
-    let moments = Vec::from_slice(alloc, clock)?;
-    Ok(ScriptPort::make(
+    let moments = Vec::from_slice(alloc, clock).expect(stop, "moments");
+    let opens = up_to(stop, alloc, failing.opens);
+    let receives = up_to(stop, alloc, failing.receives);
+    let sends = up_to(stop, alloc, failing.sends);
+    ScriptPort::make(
         alloc,
         items,
         moments,
-        up_to(alloc, opens)?,
+        opens,
         Vec::new(alloc),
-        up_to(alloc, receives)?,
-        up_to(alloc, sends)?,
+        receives,
+        sends,
         1_000,
         10_000,
-    )?)
+    )
+    .expect(stop, "a port")
 }
 
-fn port(alloc: Global, items: Vec<PortItem>, failing: Failing) -> Result<ScriptPort, Fail>
-    requires { All IsWhole items.items }
-{
-    port_at(alloc, &CLOCK, items, failing)
+/// A port at which nothing comes before its end.
+fn quiet_port(stop: &impl Abort, alloc: Global, clock: &[u64], failing: Failing) -> ScriptPort {
+    port_at(stop, alloc, clock, Vec::new(alloc), failing)
 }
 
-/// The status of a measurement at a port, what it wrote, and the port.
-fn probed(alloc: Global, port: ScriptPort) -> Result<(u8, MemSink, Vec<ScriptPort>), Fail> {
+fn sink(stop: &impl Abort, alloc: Global, room: usize) -> MemSink {
+    MemSink::make(alloc, room, Vec::new(alloc)).expect(stop, "a sink")
+}
+
+fn one_port(stop: &impl Abort, alloc: Global, port: ScriptPort) -> Vec<ScriptPort> {
     let mut ports = Vec::new(alloc);
-    ports.push(port)?;
-    let mut out = MemSink::make(alloc, 1_000, Vec::new(alloc))?;
-    let status = run_probe(alloc, &PROBE, &mut out, ports.as_mut_slice());
-    Ok((status, out, ports))
+    ports.push(port).expect(stop, "room");
+    ports
+}
+
+/// Measures at ports, and ends the test where another status comes of it or anything else is written than this.
+fn expect_probed<P: Port + Drop>(
+    stop: &impl Abort,
+    alloc: Global,
+    ports: &mut [P],
+    room: usize,
+    status: u8,
+    written: &[u8],
+) {
+    let mut out = sink(stop, alloc, room);
+    let got = run_probe(alloc, &PROBE, &mut out, ports);
+    assert_eq!(stop; got, status);
+    assert_eq!(stop; out.written(), written);
+    let_go_sink(out);
+}
+
+/// The same at one port.
+fn expect_at(stop: &impl Abort, alloc: Global, port: ScriptPort, status: u8, written: &[u8]) {
+    let mut ports = one_port(stop, alloc, port);
+    expect_probed(stop, alloc, ports.as_mut_slice(), 1_000, status, written);
+    let_go_ports(ports);
+}
+
+fn let_go_sink(_out: MemSink) {}
+
+fn let_go_ports(_ports: Vec<ScriptPort>) {}
+
+const MEASURED: &[u8] =
+    b"sent 1\nreceived 1\ndoubles 0\nstrangers 0\nforward lost 0\nbackward lost 0\nforward delay 1073741824 1073741824\nbackward delay 2147483648 2147483648\n";
+
+/// What is told of the reply from the peer.
+const OF_PEER: Meta = Meta {
+    local: 0,
+    peer: PEER,
+    len: 44,
+    ttl: None,
+    arrival: 1_000_000_000,
+};
+
+/// What a port does for a request and its reply.
+const DEEDS: [PortDeed; 6] = [
+    PortDeed::Read(0),
+    PortDeed::Read(0),
+    PortDeed::Sent { from: 0, to: PEER },
+    PortDeed::Took(OF_PEER),
+    PortDeed::Read(2_000_000_000),
+    PortDeed::Done,
+];
+
+/// Ends the test where a port did anything else.
+fn expect_deeds(stop: &impl Abort, ports: &[ScriptPort]) {
+    assert_eq!(stop; ports.len(), 1);
+    let port = &ports[0];
+    for at in 0..DEEDS.len() {
+        assert_eq!(stop; port.entry(at).map(|entry| entry.0), Some(DEEDS[at]));
+    }
+    assert!(stop; port.entry(DEEDS.len()).is_none());
 }
 
 #[test]
-fn a_reply_is_counted_and_measured(rt: HostRuntime) -> Result<(), Fail> {
+fn a_reply_is_counted_and_measured(rt: HostRuntime) {
     let alloc = rt.alloc();
-    let (status, out, ports) = probed(
-        alloc,
-        port(alloc, reply_from(alloc, PEER)?, Failing::None)?,
-    )?;
-    assert_eq!(rt; status, 0);
-    assert_eq!(rt;
-        out.written(),
-        b"sent 1\nreceived 1\ndoubles 0\nstrangers 0\nforward lost 0\nbackward lost 0\nforward delay 1073741824 1073741824\nbackward delay 2147483648 2147483648\n".as_slice()
-    );
-    let deeds = [
-        PortDeed::Read(0),
-        PortDeed::Read(0),
-        PortDeed::Sent { from: 0, to: PEER },
-        PortDeed::Took(meta(PEER)),
-        PortDeed::Read(2_000_000_000),
-        PortDeed::Done,
-    ];
-    assert_eq!(rt; ports.len(), 1);
-    for (at, deed) in deeds.iter().enumerate() {
-        assert_eq!(rt; ports[0].entry(at).map(|entry| entry.0), Some(*deed));
-    }
-    assert!(rt; ports[0].entry(6).is_none());
-    Ok(())
+    let items = reply_from(&rt, alloc, PEER);
+    let port = port_at(&rt, alloc, &CLOCK, items, NONE);
+    let mut ports = one_port(&rt, alloc, port);
+    expect_probed(&rt, alloc, ports.as_mut_slice(), 1_000, 0, MEASURED);
+    expect_deeds(&rt, &ports);
+    let_go_ports(ports);
 }
 
 /// What is written where only the request was sent, and so many datagrams of others came.
@@ -164,71 +211,59 @@ const STRANGE: &[u8] =
     b"sent 1\nreceived 0\ndoubles 0\nstrangers 1\nforward lost 1\nbackward lost 0\nforward delay none none\nbackward delay none none\n";
 
 #[test]
-fn a_reply_from_another_port_is_a_stranger(rt: HostRuntime) -> Result<(), Fail> {
+fn a_reply_from_another_port_is_a_stranger(rt: HostRuntime) {
     let alloc = rt.alloc();
-    let (status, out, _ports) = probed(
-        alloc,
-        port(alloc, reply_from(alloc, OTHER)?, Failing::None)?,
-    )?;
-    assert_eq!(rt; (status, out.written()), (0, STRANGE));
-    Ok(())
+    let items = reply_from(&rt, alloc, OTHER);
+    let port = port_at(&rt, alloc, &CLOCK, items, NONE);
+    expect_at(&rt, alloc, port, 0, STRANGE);
 }
 
 #[test]
-fn a_request_whose_sending_failed_is_sent(rt: HostRuntime) -> Result<(), Fail> {
-    let alloc = rt.alloc();
-    let (status, out, _ports) = probed(alloc, port(alloc, Vec::new(alloc), Failing::Send)?)?;
-    assert_eq!(rt; (status, out.written()), (0, LOST));
-    Ok(())
+fn a_request_whose_sending_failed_is_sent(rt: HostRuntime) {
+    let failing = Failing { sends: 1, ..NONE };
+    let port = quiet_port(&rt, rt.alloc(), &CLOCK, failing);
+    expect_at(&rt, rt.alloc(), port, 0, LOST);
 }
 
-#[test]
-fn a_port_that_fails_to_open_is_told(rt: HostRuntime) -> Result<(), Fail> {
-    let alloc = rt.alloc();
-    let (status, out, _ports) = probed(alloc, port(alloc, Vec::new(alloc), Failing::Open)?)?;
-    assert_eq!(rt;
-        (status, out.written()),
-        (9, b"stampd: port failed\n".as_slice())
-    );
-    Ok(())
-}
+const NOT_OPENED: &[u8] = b"stampd: port failed\n";
 
 #[test]
-fn without_a_port_the_limit_is_told(rt: HostRuntime) -> Result<(), Fail> {
-    let alloc = rt.alloc();
-    let mut ports: Vec<ScriptPort> = Vec::new(alloc);
-    let mut out = MemSink::make(alloc, 1_000, Vec::new(alloc))?;
-    let status = run_probe(alloc, &PROBE, &mut out, ports.as_mut_slice());
-    assert_eq!(rt;
-        (status, out.written()),
-        (3, b"stampd: configuration: limit workers\n".as_slice())
-    );
-    Ok(())
+fn a_port_that_fails_to_open_is_told(rt: HostRuntime) {
+    let failing = Failing { opens: 1, ..NONE };
+    let port = quiet_port(&rt, rt.alloc(), &CLOCK, failing);
+    expect_at(&rt, rt.alloc(), port, 9, NOT_OPENED);
 }
 
+const NO_PORT: &[u8] = b"stampd: configuration: limit workers\n";
+
 #[test]
-fn lines_that_find_no_room_are_lost(rt: HostRuntime) -> Result<(), Fail> {
+fn without_a_port_the_limit_is_told(rt: HostRuntime) {
+    let mut ports: Vec<ScriptPort> = Vec::new(rt.alloc());
+    expect_probed(&rt, rt.alloc(), ports.as_mut_slice(), 1_000, 3, NO_PORT);
+    let_go_ports(ports);
+}
+
+const NOTHING: &[u8] = b"";
+
+#[test]
+fn lines_that_find_no_room_are_lost(rt: HostRuntime) {
     let alloc = rt.alloc();
-    let mut ports = Vec::new(alloc);
-    ports.push(port(alloc, Vec::new(alloc), Failing::None)?)?;
-    let mut out = MemSink::make(alloc, 10, Vec::new(alloc))?;
-    let status = run_probe(alloc, &PROBE, &mut out, ports.as_mut_slice());
-    assert_eq!(rt; (status, out.written()), (8, b"".as_slice()));
-    Ok(())
+    let port = quiet_port(&rt, alloc, &CLOCK, NONE);
+    let mut ports = one_port(&rt, alloc, port);
+    expect_probed(&rt, alloc, ports.as_mut_slice(), 10, 8, NOTHING);
+    let_go_ports(ports);
 }
 
 const FAILED: &[u8] =
     b"sent 1\nreceived 0\ndoubles 0\nstrangers 0\nforward lost 1\nbackward lost 0\nforward delay none none\nbackward delay none none\nstampd: port failed\n";
 
 #[test]
-fn a_port_fails_with_the_64th_failure_in_a_row(rt: HostRuntime) -> Result<(), Fail> {
-    let alloc = rt.alloc();
-    for (failures, want) in [(63, (0, LOST)), (64, (9, FAILED))] {
-        let port = port_at(alloc, &[0], Vec::new(alloc), Failing::Recv(failures))?;
-        let (status, out, _ports) = probed(alloc, port)?;
-        assert_eq!(rt; (status, out.written()), want);
+fn a_port_fails_with_the_64th_failure_in_a_row(rt: HostRuntime) {
+    for (receives, status, written) in [(63, 0, LOST), (64, 9, FAILED)] {
+        let failing = Failing { receives, ..NONE };
+        let port = quiet_port(&rt, rt.alloc(), &[0], failing);
+        expect_at(&rt, rt.alloc(), port, status, written);
     }
-    Ok(())
 }
 
 /// A port at which nothing ever comes.
@@ -272,14 +307,14 @@ impl Port for Silent {
 const SPENT: &[u8] =
     b"sent 1\nreceived 0\ndoubles 0\nstrangers 0\nforward lost 1\nbackward lost 0\nforward delay none none\nbackward delay none none\nstampd: budget spent\n";
 
+fn let_go_silent(_ports: Vec<Silent>) {}
+
 #[test]
-fn a_clock_that_stands_still_spends_the_budget(rt: HostRuntime) -> Result<(), Fail> {
+fn a_clock_that_stands_still_spends_the_budget(rt: HostRuntime) {
     let alloc = rt.alloc();
+    let port = quiet_port(&rt, alloc, &[0], NONE);
     let mut ports = Vec::new(alloc);
-    let port = port_at(alloc, &[0], Vec::new(alloc), Failing::None)?;
-    ports.push(Silent { port })?;
-    let mut out = MemSink::make(alloc, 1_000, Vec::new(alloc))?;
-    let status = run_probe(alloc, &PROBE, &mut out, ports.as_mut_slice());
-    assert_eq!(rt; (status, out.written()), (11, SPENT));
-    Ok(())
+    ports.push(Silent { port }).expect(&rt, "room");
+    expect_probed(&rt, alloc, ports.as_mut_slice(), 1_000, 11, SPENT);
+    let_go_silent(ports);
 }

@@ -29,13 +29,13 @@ impl ReadAhead {
     pub fn make(alloc: Global) -> Result<ReadAhead, Memory>
         ensures { IfOk result (λ r. pending r ≡ []) }
     {
-        match vec![in alloc; 0u8; ROOM] {
+        match room(alloc) {
             Ok(octets) => Ok(ReadAhead {
                 octets,
                 from: 0,
                 to: 0,
             }),
-            Err(_) => Err(Memory),
+            Err(fault) => Err(fault),
         }
     }
 
@@ -78,6 +78,16 @@ impl ReadAhead {
         let count = read_behind(input, &mut self.octets, self.to)?;
         self.to += count;
         Ok(count)
+    }
+}
+
+/// The octets of an empty buffer.
+fn room(alloc: Global) -> Result<Vec<u8>, Memory>
+    ensures { IfOk result (λ octets. vec_len octets ≡ 524288) }
+{
+    match vec![in alloc; 0u8; ROOM] {
+        Ok(octets) => Ok(octets),
+        Err(_) => Err(Memory),
     }
 }
 

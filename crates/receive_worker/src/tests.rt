@@ -9,13 +9,21 @@ ghost use Rattle.std.specs.Prelude.{◌<◌, length};
 
 use crate::{Tally, WorkEnd};
 use net_io::ScriptPort;
-use refl_types::{Mode, Silent, Unanswered};
+use refl_types::{Key, Mode, Silent, Unanswered};
 use reflect_core::Judged;
 use requests::{PLAIN, REQUEST, filled, request, signed, with_tail};
 use script::{Script, has_each_number_once, reply_at, sender, sendings};
 use stage::{NOTHING, Stage, USUAL_TLVS, config, five, fronts, key, one_of, plain_key};
 use std::alloc::Global;
 use std::process::Abort;
+
+fn let_go(_stage: Stage, _port: ScriptPort) {}
+
+fn let_go_stage(_stage: Stage) {}
+
+fn let_go_both(_port: ScriptPort, _whole: Vec<u8>) {}
+
+fn let_go_port(_port: ScriptPort) {}
 
 #[test]
 fn five_datagrams_of_which_one_send_fails(rt: HostRuntime) {
@@ -29,6 +37,7 @@ fn five_datagrams_of_which_one_send_fails(rt: HostRuntime) {
         let (port, tally) = five(&rt, rt.alloc(), &[], &[], &[failing]);
         assert!(rt; tally == lost);
         assert!(rt; has_each_number_once(&port));
+        let_go_port(port);
     }
 }
 
@@ -44,17 +53,16 @@ fn five_datagrams_of_which_one_receive_fails(rt: HostRuntime) {
         let (port, tally) = five(&rt, rt.alloc(), &[], &[failing], &[]);
         assert!(rt; tally == failed);
         assert!(rt; has_each_number_once(&port));
+        let_go_port(port);
     }
 }
 
 #[test]
 fn a_clock_that_goes_back_is_read_as_it_is(rt: HostRuntime) {
-    let moments = [2_000_000_000, 1_000_000_000];
-    let (port, _) = five(&rt, rt.alloc(), &moments, &[], &[]);
-    let first = [0, 0, 0, 0, 0x83, 0xAA, 0x7E, 0x82, 0, 0, 0, 0];
-    let second = [0, 0, 0, 1, 0x83, 0xAA, 0x7E, 0x81, 0, 0, 0, 0];
-    assert!(rt; reply_at(&port, 2).starts_with(&first));
-    assert!(rt; reply_at(&port, 5).starts_with(&second));
+    let (port, _) = five(&rt, rt.alloc(), &[2_000_000_000, 1_000_000_000], &[], &[]);
+    assert!(rt; reply_at(&port, 2).starts_with(b"\0\0\0\0\x83\xAA\x7E\x82\0\0\0\0"));
+    assert!(rt; reply_at(&port, 5).starts_with(b"\0\0\0\x01\x83\xAA\x7E\x81\0\0\0\0"));
+    let_go_port(port);
 }
 
 #[test]
@@ -88,6 +96,7 @@ fn plain_requests_are_cut_at_each_length(rt: HostRuntime) {
         assert!(rt; reply.len() == len);
         assert!(rt; reply.get(PLAIN) == Some(&first));
     }
+    let_go_port(port);
 }
 
 #[test]
@@ -95,7 +104,7 @@ fn signed_requests_are_cut_at_each_length(rt: HostRuntime) {
     let block = [0xA1; 64];
     let session = key(sender(5000), Mode::Auth, 7);
     let keyed = config(&rt, USUAL_TLVS, Some(block));
-    let (_, tally) = fronts(&rt, rt.alloc(), &session, &keyed, &signed(&block));
+    let (port, tally) = fronts(&rt, rt.alloc(), &session, &keyed, &signed(&block));
     let wanted = Tally {
         taken: 113,
         no_session: 28,
@@ -104,13 +113,14 @@ fn signed_requests_are_cut_at_each_length(rt: HostRuntime) {
         ..NOTHING
     };
     assert!(rt; tally == wanted);
+    let_go_port(port);
 }
 
 #[test]
 fn twamp_requests_are_cut_at_each_length(rt: HostRuntime) {
     let session = key(sender(5000), Mode::Twamp, 0);
     let usual = config(&rt, USUAL_TLVS, None);
-    let (_, tally) = fronts(&rt, rt.alloc(), &session, &usual, &REQUEST[..20]);
+    let (port, tally) = fronts(&rt, rt.alloc(), &session, &usual, &REQUEST[..20]);
     let wanted = Tally {
         taken: 21,
         short: 14,
@@ -118,6 +128,7 @@ fn twamp_requests_are_cut_at_each_length(rt: HostRuntime) {
         ..NOTHING
     };
     assert!(rt; tally == wanted);
+    let_go_port(port);
 }
 
 #[test]
@@ -128,6 +139,7 @@ fn one_tlv_fills_a_datagram(rt: HostRuntime) {
     let reply = reply_at(&port, 2);
     assert!(rt; reply.len() == 65_507);
     assert!(rt; reply.get(PLAIN) == Some(&0));
+    let_go_both(port, whole);
 }
 
 #[test]
@@ -138,6 +150,7 @@ fn many_tlvs_fill_a_datagram(rt: HostRuntime) {
     let reply = reply_at(&port, 2);
     assert!(rt; reply.len() == 65_507);
     assert!(rt; reply.get(PLAIN..) == whole.get(PLAIN..));
+    let_go_both(port, whole);
 }
 
 /// What 63 or 64 failures in a row lead to.
@@ -148,7 +161,8 @@ fn after_failures(rt: &impl Abort, alloc: Global, count: u64) -> Tally {
             failing.push(call).expect(rt, "room");
         }
     }
-    let (_, tally) = five(rt, alloc, &[], &failing, &[]);
+    let (port, tally) = five(rt, alloc, &[], &failing, &[]);
+    let_go_port(port);
     tally
 }
 
@@ -173,15 +187,23 @@ fn sixty_four_failures_in_a_row_end_a_worker(rt: HostRuntime) {
     assert!(rt; after_failures(&rt, rt.alloc(), 64) == wanted);
 }
 
+/// A port that gives a request that asks for no reply, and then one that doesn't.
+fn two_asks(rt: &impl Abort, alloc: Global) -> ScriptPort
+    ensures { 0 < length result.bound }
+{
+    let mut script = Script::new(alloc);
+    script.give(rt, &sender(5000), &with_tail(NO_REPLY_TAIL));
+    script.give(rt, &sender(5000), &REQUEST);
+    script.port(rt, &[], &[], &[])
+}
+
+/// A Reflected Control TLV that asks for no reply, and padding.
+const NO_REPLY_TAIL: [u8; 12] = [0x80, 10, 0, 8, 0x80, 1, 0, 4, 0, 0, 0, 0];
+
 #[test]
 fn who_asks_for_no_reply_gets_none(rt: HostRuntime) {
-    let mut stage = Stage::new(&rt, rt.alloc(), 4);
-    stage.open(&rt, &plain_key(), &config(&rt, 1 << 10, None));
-    let asks = with_tail([0x80, 10, 0, 8, 0x80, 1, 0, 4, 0, 0, 0, 0]);
-    let mut script = Script::new(rt.alloc());
-    script.give(&rt, &sender(5000), &asks);
-    script.give(&rt, &sender(5000), &REQUEST);
-    let mut port = script.port(&rt, &[], &[], &[]);
+    let mut stage = opened(&rt, rt.alloc(), &plain_key(), 1 << 10, None);
+    let mut port = two_asks(&rt, rt.alloc());
     let wanted = Tally {
         taken: 2,
         no_reply: 1,
@@ -190,6 +212,14 @@ fn who_asks_for_no_reply_gets_none(rt: HostRuntime) {
     };
     assert!(rt; stage.work(&mut port, 0, 100) == wanted);
     assert!(rt; sendings(&port, 0) == 1);
+    let_go(stage, port);
+}
+
+/// A stage with this one session.
+fn opened(rt: &impl Abort, alloc: Global, key: &Key, tlvs: u32, block: Option<[u8; 64]>) -> Stage {
+    let mut stage = Stage::new(rt, alloc, 4);
+    stage.open(rt, key, &config(rt, tlvs, block));
+    stage
 }
 
 /// What a worker takes under a limit and a budget, and how it ends.
@@ -210,6 +240,7 @@ fn a_worker_ends_by_the_first_end_that_is_due(rt: HostRuntime) {
     assert!(rt; ended(&mut stage, &mut port, 2, 2) == (2, WorkEnd::Limit));
     assert!(rt; ended(&mut stage, &mut port, 1, 5) == (1, WorkEnd::Limit));
     assert!(rt; ended(&mut stage, &mut port, 1, 1) == (0, WorkEnd::End));
+    let_go(stage, port);
 }
 
 #[test]
@@ -225,6 +256,7 @@ fn sessions_are_found_by_their_sender_and_ssid(rt: HostRuntime) {
     let tally = stage.work_out(&rt, script);
     assert!(rt; tally.sent == 1);
     assert!(rt; tally.no_session == 2);
+    let_go_stage(stage);
 }
 
 #[test]
@@ -248,35 +280,47 @@ fn a_request_is_judged_under_the_key_of_the_day(rt: HostRuntime) {
     assert!(rt; stage.work(&mut port, 0, 100) == wanted);
     assert!(rt; sendings(&port, 0) == 1);
     assert!(rt; sendings(&port, 1) == 1);
+    let_go(stage, port);
 }
+
+/// Two HMAC keys.
+const OLD: [u8; 64] = [0xA1; 64];
+
+const NEW: [u8; 64] = [0xB2; 64];
 
 #[test]
 fn a_number_drawn_under_another_key_than_that_of_the_look_is_spent(rt: HostRuntime) {
-    let (old, new) = ([0xA1; 64], [0xB2; 64]);
     let session = key(sender(5000), Mode::Auth, 7);
-    let mut stage = Stage::new(&rt, rt.alloc(), 4);
-    stage.open(&rt, &session, &config(&rt, USUAL_TLVS, Some(old)));
-    let keyed = config(&rt, USUAL_TLVS, Some(new));
-    let (seen, drawn) = stage.turn_while_set(&rt, &session, &keyed, &signed(&old));
+    let mut stage = opened(&rt, rt.alloc(), &session, USUAL_TLVS, Some(OLD));
+    let keyed = config(&rt, USUAL_TLVS, Some(NEW));
+    let (seen, drawn) = stage.turn_while_set(&rt, &session, &keyed, &signed(&OLD));
     assert!(rt; seen.row == 1 && seen.judged == Judged::Reflect);
     assert!(rt; drawn.row == 2 && drawn.judged == Judged::Silent(Silent::BadHmac));
     assert!(rt; stage.close(&rt, &session) == 1);
+    let_go_stage(stage);
+}
+
+/// The first worker takes a request, and the second the next.
+fn take_one_each(rt: &impl Abort, stage: &mut Stage, port: &mut ScriptPort)
+    requires { 0 < length port.old.bound }
+    ensures { 0 < length port.new.bound }
+{
+    assert!(rt; stage.work(port, 1, 100).sent == 1);
+    assert!(rt; stage.work_beside(port, 1, 100).sent == 1);
 }
 
 #[test]
 fn two_workers_and_a_desk_serve_one_table(rt: HostRuntime) {
-    let mut stage = Stage::new(&rt, rt.alloc(), 4);
-    stage.open(&rt, &plain_key(), &config(&rt, USUAL_TLVS, None));
+    let mut stage = opened(&rt, rt.alloc(), &plain_key(), USUAL_TLVS, None);
     let mut port = Script::with_pauses(&rt, rt.alloc(), 0, 5);
-    assert!(rt; stage.work(&mut port, 1, 100).sent == 1);
-    assert!(rt; stage.work_beside(&mut port, 1, 100).sent == 1);
-    assert!(rt; stage.work(&mut port, 1, 100).sent == 1);
-    assert!(rt; stage.work_beside(&mut port, 1, 100).sent == 1);
+    take_one_each(&rt, &mut stage, &mut port);
+    take_one_each(&rt, &mut stage, &mut port);
     assert!(rt; stage.close(&rt, &plain_key()) == 4);
     assert!(rt; stage.work(&mut port, 0, 100).no_session == 1);
     for number in 0..4 {
         assert!(rt; sendings(&port, number) == 1);
     }
+    let_go(stage, port);
 }
 
 #[test]
@@ -293,4 +337,5 @@ fn a_turn_says_what_became_of_a_datagram(rt: HostRuntime) {
     assert!(rt; stage.turn(&mut port) == Err(Unanswered::Short));
     assert!(rt; stage.turn(&mut port) == Err(Unanswered::NoSession));
     assert!(rt; stage.turn(&mut port) == Err(Unanswered::SendFault));
+    let_go(stage, port);
 }

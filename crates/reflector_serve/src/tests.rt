@@ -6,6 +6,7 @@ mod ends;
 mod gates;
 mod order;
 mod packets;
+mod play;
 mod port_side;
 
 use crate::{Report, ServeFault, serve};
@@ -156,19 +157,26 @@ fn number_sent(port: &ScriptPort, at: usize) -> Option<u8> {
     }
 }
 
+/// The tally of a worker that took nothing, up to the end of its port.
+const NOTHING: Tally = Tally {
+    taken: 0,
+    sent: 0,
+    no_session: 0,
+    short: 0,
+    bad_hmac: 0,
+    changed: 0,
+    no_reply: 0,
+    send_fault: 0,
+    recv_fault: 0,
+    end: WorkEnd::End,
+};
+
 /// The tally of a worker that answered so many datagrams, up to the end of its port.
 fn answered(count: u64) -> Tally {
     Tally {
         taken: count,
         sent: count,
-        no_session: 0,
-        short: 0,
-        bad_hmac: 0,
-        changed: 0,
-        no_reply: 0,
-        send_fault: 0,
-        recv_fault: 0,
-        end: WorkEnd::End,
+        ..NOTHING
     }
 }
 
@@ -186,6 +194,8 @@ fn is_report(report: &Report, workers: usize, count: u64, live: u32) -> bool {
         && report.live == live
 }
 
+fn let_go<A: Drop, B: Drop, C: Drop>(_a: A, _b: B, _c: C) {}
+
 #[test]
 fn the_first_ports_have_workers_and_the_others_stay_as_they_are(rt: HostRuntime) {
     let alloc = rt.alloc();
@@ -200,6 +210,15 @@ fn the_first_ports_have_workers_and_the_others_stay_as_they_are(rt: HostRuntime)
     assert!(rt; has_done(&ports[0], 0, PortDeed::Read(1_000)));
     assert!(rt; has_done(&ports[1], 0, PortDeed::Took(META)));
     assert!(rt; ports[2].entry(0).is_none());
+    let_go(report, ports, desk);
+}
+
+/// Why nothing was served.
+fn fault_of(outcome: Result<Report, ServeFault>) -> Option<ServeFault> {
+    match outcome {
+        Ok(_report) => None,
+        Err(fault) => Some(fault),
+    }
 }
 
 /// What is answered where these openings fail, if the first port's log has its one moment, and the second's nothing.
@@ -215,13 +234,12 @@ fn refused<R: Threads + Sync + Abort>(
         port(rt, alloc, 1, &[], fail_share, &[]),
     ];
     let mut desk = desk(rt, alloc, fail_desk);
-    let Err(fault) = run(rt, alloc, TWO, &mut ports, &mut desk) else {
-        return None;
-    };
+    let fault = fault_of(run(rt, alloc, TWO, &mut ports, &mut desk));
     let is_quiet = has_done(&ports[0], 0, PortDeed::Read(1_000))
         && ports[0].entry(1).is_none()
         && ports[1].entry(0).is_none();
-    if is_quiet { Some(fault) } else { None }
+    let_go(ports, desk, ());
+    if is_quiet { fault } else { None }
 }
 
 #[test]
@@ -242,13 +260,16 @@ fn a_reply_that_is_lost_has_spent_its_number(rt: HostRuntime) {
     let mut ports = [port(&rt, alloc, 3, &[], &[], &[2])];
     let mut desk = desk(&rt, alloc, &[]);
     let report = run(&rt, alloc, ONE, &mut ports, &mut desk).expect(&rt, "a report");
-    let Some(tally) = report.workers.first() else {
-        panic!(rt; "no tally");
+    let tally = Tally {
+        send_fault: 1,
+        taken: 3,
+        ..answered(2)
     };
-    assert!(rt; tally.sent == 2 && tally.send_fault == 1);
-    assert!(rt; number_sent(&ports[0], 3) == Some(0));
-    assert!(rt; number_sent(&ports[0], 6) == None);
-    assert!(rt; number_sent(&ports[0], 9) == Some(2));
+    assert_eq!(rt; report.workers.as_slice(), [tally].as_slice());
+    for (at, number) in [(3, Some(0)), (6, None), (9, Some(2))] {
+        assert!(rt; number_sent(&ports[0], at) == number, "at {at}");
+    }
+    let_go(report, ports, desk);
 }
 
 /// How many replies each worker sent.
@@ -273,6 +294,7 @@ fn workers_wait_for_one_another(rt: HostRuntime) {
     let report = run(&rt, alloc, TWO, &mut ports, &mut desk).expect(&rt, "a report");
     assert!(rt; sent_by(&report, 0) == 1);
     assert!(rt; sent_by(&report, 1) == 2);
+    let_go(report, ports, desk);
 }
 
 #[test]
@@ -286,6 +308,7 @@ fn the_desk_waits_for_a_worker_and_the_worker_for_the_desk(rt: HostRuntime) {
     let report = run(&rt, alloc, ONE, &mut ports, &mut desk).expect(&rt, "a report");
     assert!(rt; sent_by(&report, 0) == 2);
     assert!(rt; report.desk.events == 2);
+    let_go(report, ports, desk);
 }
 
 /// A file of four workers and forty sessions, each of a sender of its own.
@@ -334,4 +357,5 @@ fn four_workers_serve_forty_sessions(rt: HostRuntime) {
     let mut desk = desk(&rt, alloc, &[]);
     let report = run(&rt, alloc, &text, &mut ports, &mut desk).expect(&rt, "a report");
     assert!(rt; is_report(&report, 4, 10, 40));
+    let_go(report, ports, desk);
 }

@@ -127,6 +127,8 @@ fn draw_first(rt: &impl Abort, table: &Table, worker: &mut WorkerSeat)
     retire_announcement(table, worker);
 }
 
+fn let_go(_table: Table, _book: DeskBook) {}
+
 #[test]
 fn a_slot_is_used_again_under_its_next_generation(rt: HostRuntime) {
     let (table, mut book) = open(&rt, rt.alloc(), 1);
@@ -144,6 +146,7 @@ fn a_slot_is_used_again_under_its_next_generation(rt: HostRuntime) {
         assert_eq!(rt; book.close(&table, &session), Ok(0));
         assert_eq!(rt; book.close(&table, &session), Err(NoSuch));
     }
+    let_go(table, book);
 }
 
 #[test]
@@ -172,6 +175,7 @@ fn a_slot_that_a_worker_has_announced_is_not_used_again(rt: HostRuntime) -> Resu
         }
     );
     book.join(&table, worker);
+    let_go(table, book);
     Ok(())
 }
 
@@ -205,6 +209,7 @@ fn another_slot_is_used_while_a_worker_holds_one(rt: HostRuntime) -> Result<(), 
     };
     let third = reserve(&rt, &table, &mut book, &key(Mode::Plain, 5001, 3), 0);
     assert_eq!(rt; third, Err(full));
+    let_go(table, book);
     Ok(())
 }
 
@@ -232,6 +237,7 @@ fn a_draw_is_counted_and_lets_a_session_live_on(rt: HostRuntime) -> Result<(), F
     );
     assert_eq!(rt; book.count(&table, &session), Err(NoSuch));
     book.join(&table, worker);
+    let_go(table, book);
     Ok(())
 }
 
@@ -247,6 +253,7 @@ fn a_session_whose_word_changed_is_noted_anew_and_expires_later(rt: HostRuntime)
         assert_eq!(rt; book.tick(&table, now), Ticked { closed, expired });
     }
     assert_eq!(rt; book.count(&table, &changed), Err(NoSuch));
+    let_go(table, book);
 }
 
 #[test]
@@ -270,6 +277,7 @@ fn a_session_is_closed_at_its_closing_moment(rt: HostRuntime) {
         }
     );
     assert_eq!(rt; book.close_at(&session, 9), Err(NoSuch));
+    let_go(table, book);
 }
 
 #[test]
@@ -288,6 +296,7 @@ fn a_slot_is_retired_after_all_its_generations(rt: HostRuntime) {
         held: 0,
     };
     assert_eq!(rt; reserve(&rt, &table, &mut book, &session, 0), Err(full));
+    let_go(table, book);
 }
 
 #[test]
@@ -313,6 +322,7 @@ fn a_refusal_names_its_cause(rt: HostRuntime) {
         book.admits(&key(Mode::Plain, 5000, 8), &config(&rt, 1)),
         Ok(())
     );
+    let_go(table, book);
 }
 
 #[test]
@@ -342,6 +352,7 @@ fn sessions_lie_from_their_place_on_and_are_listed_in_the_order_of_starting(rt: 
     assert_eq!(rt; book.live_at(0), Some(second));
     assert_eq!(rt; book.live_at(1), Some(first));
     assert_eq!(rt; book.live_place(&first), Some(early));
+    let_go(table, book);
 }
 
 #[test]
@@ -362,4 +373,5 @@ fn a_full_table_is_opened_passed_and_closed(rt: HostRuntime) {
         assert_eq!(rt; book.close(&table, &key(Mode::Plain, port, 7)), Ok(0));
     }
     assert_eq!(rt; book.live_len(), 0);
+    let_go(table, book);
 }

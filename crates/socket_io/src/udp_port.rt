@@ -82,8 +82,18 @@ impl<R: Net + Clock + Copy> UdpPort<R> {
         ensures bound { IfOk result (λ port. port.bound ≡ []) }
         ensures faults { IfOk result (λ port. port.faults ≡ 0) }
     {
-        let ends = ends.share()?;
-        Ok(UdpPort {
+        match ends.share() {
+            Ok(ends) => Ok(UdpPort::over(rt, alloc, ends)),
+            Err(fault) => Err(fault),
+        }
+    }
+
+    /// A port that is bound to nothing yet, with ends of its own.
+    fn over(rt: R, alloc: Global, ends: Ends) -> UdpPort<R>
+        ensures bound { result.bound ≡ [] }
+        ensures faults { result.faults ≡ 0 }
+    {
+        UdpPort {
             rt,
             alloc,
             ends,
@@ -95,7 +105,7 @@ impl<R: Net + Clock + Copy> UdpPort<R> {
             to: [0; _SS_SIZE],
             last: 0,
             faults: 0,
-        })
+        }
     }
 
     /// Takes over sockets.

@@ -222,3 +222,13 @@ pub fn turn_while_closed(
         Found::NoSession { .. } => None,
     }
 }
+
+/// Joins both workers, and lets all go.
+pub fn let_go(table: Table, mut book: DeskBook, first: WorkerSeat, second: WorkerSeat)
+    requires book { IsBookOf table book }
+    requires first { IsWorkerOf table first }
+    requires second { IsWorkerOf table second }
+{
+    book.join(&table, first);
+    book.join(&table, second);
+}

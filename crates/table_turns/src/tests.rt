@@ -1,6 +1,8 @@
 //! Tests.
 
-use crate::shared::{begin, config, key, open, turn, turn_by, turn_while_closed, turn_while_set};
+use crate::shared::{
+    begin, config, key, let_go, open, turn, turn_by, turn_while_closed, turn_while_set,
+};
 use session_table::KnownRows;
 
 #[test]
@@ -12,8 +14,7 @@ fn sessions_lie_at_their_places_and_walks_end_at_slots_that_were_never_used(rt: 
     assert_eq!(rt; turn(&table, &mut first, 5000, 8), (2, Some((0, 1))));
     assert_eq!(rt; turn(&table, &mut first, 5000, 9), (3, None));
     assert_eq!(rt; turn(&table, &mut first, 5001, 7), (1, None));
-    book.join(&table, first);
-    book.join(&table, second);
+    let_go(table, book, first, second);
 }
 
 #[test]
@@ -25,8 +26,7 @@ fn a_draw_takes_the_configuration_that_was_set_since_the_look(rt: HostRuntime) {
     let changed = turn_while_set(&rt, &table, &mut book, &mut first, &session, &new);
     assert_eq!(rt; changed, Some((1, 0, 2, 2)));
     assert_eq!(rt; turn(&table, &mut first, 5000, 7), (1, Some((1, 2))));
-    book.join(&table, first);
-    book.join(&table, second);
+    let_go(table, book, first, second);
 }
 
 #[test]
@@ -51,6 +51,5 @@ fn two_workers_draw_one_after_the_other_until_the_desk_closes_the_session(rt: Ho
         turn_by(&table, &mut second, &mut known, 5000, 7),
         (2, None)
     );
-    book.join(&table, first);
-    book.join(&table, second);
+    let_go(table, book, first, second);
 }

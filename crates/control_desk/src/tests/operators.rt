@@ -1,10 +1,10 @@
 //! Operators: what each line is answered, its refusals in their order, and lines that are cut or too long.
 
 use super::{
-    FILE, Happens, Limits, NO_LIMITS, Played, SECOND, client_octets, expect_ends, expect_sent,
-    one_by_one, part, play,
+    FILE, Happens, Limits, NO_LIMITS, ONE_SLOT, SECOND, Setup, Wanted, client_octets, expect_run,
+    one_by_one, part,
 };
-use crate::{DeskEnd, DeskTally};
+use crate::DeskEnd;
 use net_io::ConnKind;
 use std::alloc::Global;
 use std::process::Abort;
@@ -13,23 +13,26 @@ const OPENS: (u64, Happens) = (0, Happens::Opens(3, ConnKind::Operator));
 
 /// Ends a test where an operator is answered otherwise who gives these lines.
 fn expect_answers(
-    rt: &impl Abort,
+    stop: &impl Abort,
     alloc: Global,
     file: &str,
     slots: u32,
     lines: &str,
     answers: &[u8],
-) -> Played {
+) {
     let events = [OPENS, (0, Happens::Gives(3, lines.as_bytes()))];
-    let played = play(rt, alloc, file, slots, &events, &NO_LIMITS);
-    expect_sent(rt, alloc, &played, 3, answers, 0);
-    played
+    let setup = Setup {
+        file,
+        slots,
+        ..ONE_SLOT
+    };
+    expect_run(stop, alloc, &setup, &events, &[Wanted::Sent(3, answers)], 0);
 }
 
 /// The session of docs/OPERATING.md.
 #[test]
 fn an_operator_is_answered_line_by_line(rt: HostRuntime) {
-    let lines = "open 0 192.0.2.1:5000 plain 7 edge 0\n\
+    let lines = b"open 0 192.0.2.1:5000 plain 7 edge 0\n\
         count 0 192.0.2.1:5000 plain 7\nopen 0 192.0.2.1:5000 plain 7 edge 0\n\
         open 0 192.0.2.1:5000 auth 7 edge 0\nopen 1 192.0.2.1:5000 plain 8 edge 0\n\
         open 0 192.0.2.1:5000 plain 8 core 0\nopen 0 192.0.2.1:5000 plain 8 edge 0\n\
@@ -39,16 +42,15 @@ fn an_operator_is_answered_line_by_line(rt: HostRuntime) {
         b"ok\nok 0\nrefused duplicate\nrefused mode clash\nrefused local\nrefused no config\n\
         refused full live 1 reserved 0 retired 0 held 0\nrefused no such\n\
         0 192.0.2.1:5000 plain 7 0\nok 1\nok 0\nok\nrefused line\nbye\n";
-    let played = expect_answers(&rt, rt.alloc(), FILE, 1, lines, answers);
-    assert_eq!(rt; played.live, 1);
-    let tally = DeskTally {
-        events: 2,
-        faults: 0,
-        closed: 1,
-        expired: 0,
-        end: DeskEnd::Quit,
-    };
-    assert_eq!(rt; played.tally, tally);
+    let events = [OPENS, (0, Happens::Gives(3, lines))];
+    let wanted = [
+        Wanted::Sent(3, answers),
+        Wanted::Sessions(1, 1, 0),
+        Wanted::Events(2),
+        Wanted::Faults(0),
+        Wanted::Ends(DeskEnd::Quit),
+    ];
+    expect_run(&rt, rt.alloc(), &ONE_SLOT, &events, &wanted, 0);
 }
 
 /// Four configurations that fill the rows of the table, of which one has an HMAC key, and a fifth.
@@ -93,20 +95,26 @@ fn a_reserved_session_is_there_for_open_alone(rt: HostRuntime) {
         OPENS,
         (0, Happens::Gives(3, lines)),
     ];
-    let played = play(&rt, rt.alloc(), FILE, 1, &events, &NO_LIMITS);
-    expect_sent(&rt, rt.alloc(), &played, 3, answers, 0);
+    expect_run(
+        &rt,
+        rt.alloc(),
+        &ONE_SLOT,
+        &events,
+        &[Wanted::Sent(3, answers)],
+        0,
+    );
 }
 
 /// The lines, with the key block of a configuration that has no HMAC key in place of each `Z`.
-fn with_blocks(rt: &impl Abort, alloc: Global, lines: &str) -> String {
+fn with_blocks(stop: &impl Abort, alloc: Global, lines: &str) -> String {
     let half = "0000000000000000000000000000000000000000000000000000000000000000";
     let mut all = String::new(alloc);
     for (index, piece) in lines.split('Z').enumerate() {
         if index > 0 {
-            all.push_str(half).expect(rt, "room");
-            all.push_str(half).expect(rt, "room");
+            all.push_str(half).expect(stop, "room");
+            all.push_str(half).expect(stop, "room");
         }
-        all.push_str(piece).expect(rt, "room");
+        all.push_str(piece).expect(stop, "room");
     }
     all
 }
@@ -126,13 +134,13 @@ fn a_name_is_given_once(rt: HostRuntime) {
 }
 
 /// A file with so many configurations.
-fn file_with(rt: &impl Abort, alloc: Global, count: u32) -> String {
+fn file_with(stop: &impl Abort, alloc: Global, count: u32) -> String {
     let mut file = String::new(alloc);
     file.push_str("locals = [\"192.0.2.10:862\"]\n")
-        .expect(rt, "room");
+        .expect(stop, "room");
     for number in 0..count {
-        let line = format!(in alloc; "[configs.c{number}]\n").expect(rt, "a line");
-        file.push_str(line.as_str()).expect(rt, "room");
+        let line = format!(in alloc; "[configs.c{number}]\n").expect(stop, "a line");
+        file.push_str(line.as_str()).expect(stop, "room");
     }
     file
 }
@@ -153,37 +161,40 @@ fn there_are_at_most_256_names(rt: HostRuntime) {
 fn a_wait_is_one_of_seconds(rt: HostRuntime) {
     let line = b"open 0 192.0.2.1:5000 plain 7 edge 10\n";
     let before = 15 * SECOND - 1;
-    for (moment, ends) in [(before, (0, 1, 0, 0)), (15 * SECOND, (0, 0, 0, 1))] {
+    for (moment, live, expired) in [(before, 1, 0), (15 * SECOND, 0, 1)] {
         let events = [
             OPENS,
             (5 * SECOND, Happens::Gives(3, line)),
             (before, Happens::Ticks),
             (moment, Happens::Ticks),
         ];
-        let played = play(&rt, rt.alloc(), FILE, 1, &events, &NO_LIMITS);
-        expect_ends(&rt, &played, 3, ends, 0);
+        let wanted = [Wanted::HungUp(3, 0), Wanted::Sessions(live, 0, expired)];
+        expect_run(&rt, rt.alloc(), &ONE_SLOT, &events, &wanted, 0);
     }
 }
+
+const LONG_LINE: [u8; 600] = [b'x'; 600];
 
 /// How many octets stand ahead of the end of a line, what is answered to it and to the line `list` behind it, and how often the
 /// connection was hung up.
 #[test]
 fn a_line_has_at_most_512_octets(rt: HostRuntime) {
-    let line = [b'x'; 600];
-    let cases = [
+    for (count, answers, hang_ups) in [
         (511, b"refused line\nok 0\n".as_slice(), 0),
         (512, b"refused line\n".as_slice(), 1),
         (600, b"refused line\n".as_slice(), 1),
-    ];
-    for (count, answers, hang_ups) in cases {
+    ] {
         let events = [
             OPENS,
-            (0, Happens::Gives(3, part(&rt, &line, 0, count))),
+            (0, Happens::Gives(3, part(&rt, &LONG_LINE, 0, count))),
             (0, Happens::Gives(3, b"\nlist\n")),
         ];
-        let played = play(&rt, rt.alloc(), FILE, 1, &events, &NO_LIMITS);
-        expect_sent(&rt, rt.alloc(), &played, 3, answers, count);
-        expect_ends(&rt, &played, 3, (hang_ups, 0, 0, 0), count);
+        let wanted = [
+            Wanted::Sent(3, answers),
+            Wanted::HungUp(3, hang_ups),
+            Wanted::Sessions(0, 0, 0),
+        ];
+        expect_run(&rt, rt.alloc(), &ONE_SLOT, &events, &wanted, count);
     }
 }
 
@@ -191,10 +202,9 @@ fn a_line_has_at_most_512_octets(rt: HostRuntime) {
 fn a_line_may_come_octet_by_octet(rt: HostRuntime) {
     let lines = b"open 0 192.0.2.1:5000 plain 7 edge 0\n\nlist\nquit\nlist\n";
     let answers = b"ok\nrefused line\n0 192.0.2.1:5000 plain 7 0\nok 1\nbye\n";
+    let wanted = [Wanted::Sent(3, answers), Wanted::Ends(DeskEnd::Quit)];
     let events = one_by_one(&rt, rt.alloc(), OPENS, 0, 3, lines);
-    let played = play(&rt, rt.alloc(), FILE, 1, events.as_slice(), &NO_LIMITS);
-    expect_sent(&rt, rt.alloc(), &played, 3, answers, 0);
-    assert_eq!(rt; played.tally.end, DeskEnd::Quit);
+    expect_run(&rt, rt.alloc(), &ONE_SLOT, events.as_slice(), &wanted, 0);
 }
 
 /// The number of the send that fails, how many octets were sent before it, how many sessions were opened, and how the desk ends.
@@ -203,34 +213,30 @@ fn an_answer_that_cant_be_sent_ends_its_connection(rt: HostRuntime) {
     let lines = b"open 0 192.0.2.1:5000 plain 1 edge 0\nopen 0 192.0.2.1:5000 plain 2 edge 0\n\
         list\nquit\n";
     let answers = b"ok\nok\n0 192.0.2.1:5000 plain 1 0\n0 192.0.2.1:5000 plain 2 0\nok 2\n";
-    let cases = [
+    for (call, count, live, end) in [
         (1, 0, 1, DeskEnd::End),
         (2, 3, 2, DeskEnd::End),
         (3, 6, 2, DeskEnd::End),
         (4, 33, 2, DeskEnd::End),
         (5, 60, 2, DeskEnd::End),
         (6, 65, 2, DeskEnd::Quit),
-    ];
-    for (call, count, live, end) in cases {
+    ] {
         let events = [OPENS, (0, Happens::Gives(3, lines))];
-        let limits = Limits {
-            fail_send: &[call],
-            ..NO_LIMITS
+        let setup = Setup {
+            slots: 2,
+            limits: Limits {
+                fail_send: &[call],
+                ..NO_LIMITS
+            },
+            ..ONE_SLOT
         };
-        let played = play(&rt, rt.alloc(), FILE, 2, &events, &limits);
-        expect_sent(
-            &rt,
-            rt.alloc(),
-            &played,
-            3,
-            part(&rt, answers, 0, count),
-            count,
-        );
-        expect_ends(&rt, &played, 3, (1, live, 0, 0), count);
-        assert_eq!(rt;
-            (played.tally.faults, played.tally.end),
-            (1, end),
-            "call {call}"
-        );
+        let wanted = [
+            Wanted::Sent(3, part(&rt, answers, 0, count)),
+            Wanted::HungUp(3, 1),
+            Wanted::Sessions(live, 0, 0),
+            Wanted::Faults(1),
+            Wanted::Ends(end),
+        ];
+        expect_run(&rt, rt.alloc(), &setup, &events, &wanted, count);
     }
 }

@@ -1,7 +1,7 @@
 //! Connections that are not kept, calls for the next event that fail, and the four ends of a run.
 
 use super::{
-    FILE, Happens, Limits, NO_LIMITS, SECOND, client_octets, expect_ends, expect_sent, part, play,
+    Happens, Limits, NO_LIMITS, ONE_SLOT, SECOND, Setup, Wanted, client_octets, expect_run, part,
     server_octets,
 };
 use crate::DeskEnd;
@@ -9,47 +9,68 @@ use net_io::ConnKind;
 use std::alloc::Global;
 use std::process::Abort;
 
-#[test]
-fn a_33rd_connection_is_hung_up_at_once(rt: HostRuntime) {
-    let mut events = Vec::new(rt.alloc());
+/// Operators that open connections 0 to 32, and what happens behind them.
+fn operators<'a>(
+    stop: &impl Abort,
+    alloc: Global,
+    then: &[(u64, Happens<'a>)],
+) -> Vec<(u64, Happens<'a>)> {
+    let mut events = Vec::new(alloc);
     for conn in 0..33 {
         events
             .push((0, Happens::Opens(conn, ConnKind::Operator)))
-            .expect(&rt, "room");
+            .expect(stop, "room");
     }
+    events.extend_from_slice(then).expect(stop, "room");
+    events
+}
+
+#[test]
+fn a_33rd_connection_is_hung_up_at_once(rt: HostRuntime) {
+    let replies = server_octets();
+    let wanted = [
+        Wanted::HungUp(31, 0),
+        Wanted::HungUp(32, 1),
+        Wanted::HungUp(33, 1),
+        Wanted::HungUp(34, 0),
+        Wanted::Sessions(0, 0, 0),
+        Wanted::Sent(33, b""),
+        Wanted::Sent(34, part(&rt, &replies, 0, 64)),
+    ];
     let others = [
         (0, Happens::Opens(33, ConnKind::Control)),
         (0, Happens::Closes(5)),
         (0, Happens::Opens(34, ConnKind::Control)),
     ];
-    events.extend_from_slice(&others).expect(&rt, "room");
-    let played = play(&rt, rt.alloc(), FILE, 1, events.as_slice(), &NO_LIMITS);
-    for (conn, hang_ups) in [(31, 0), (32, 1), (33, 1), (34, 0)] {
-        expect_ends(&rt, &played, conn, (hang_ups, 0, 0, 0), conn as usize);
-    }
-    let replies = server_octets();
-    expect_sent(&rt, rt.alloc(), &played, 33, b"", 33);
-    expect_sent(&rt, rt.alloc(), &played, 34, part(&rt, &replies, 0, 64), 34);
+    let events = operators(&rt, rt.alloc(), &others);
+    expect_run(&rt, rt.alloc(), &ONE_SLOT, events.as_slice(), &wanted, 0);
 }
 
 #[test]
 fn without_a_configuration_no_client_is_kept(rt: HostRuntime) {
-    let file = "locals = [\"192.0.2.10:862\"]\n[configs.edge]\n";
     let events = [
         (0, Happens::Opens(7, ConnKind::Control)),
         (0, Happens::Opens(3, ConnKind::Operator)),
         (0, Happens::Gives(3, b"list\n")),
     ];
-    let played = play(&rt, rt.alloc(), file, 1, &events, &NO_LIMITS);
-    expect_ends(&rt, &played, 7, (1, 0, 0, 0), 7);
-    expect_sent(&rt, rt.alloc(), &played, 7, b"", 7);
-    expect_ends(&rt, &played, 3, (0, 0, 0, 0), 3);
-    expect_sent(&rt, rt.alloc(), &played, 3, b"ok 0\n", 3);
+    let setup = Setup {
+        file: "locals = [\"192.0.2.10:862\"]\n[configs.edge]\n",
+        ..ONE_SLOT
+    };
+    let wanted = [
+        Wanted::HungUp(7, 1),
+        Wanted::Sent(7, b""),
+        Wanted::HungUp(3, 0),
+        Wanted::Sent(3, b"ok 0\n"),
+        Wanted::Sessions(0, 0, 0),
+    ];
+    expect_run(&rt, rt.alloc(), &setup, &events, &wanted, 0);
 }
 
 #[test]
 fn a_number_that_is_in_use_or_unknown_is_ignored(rt: HostRuntime) {
     let octets = client_octets();
+    let replies = server_octets();
     let events = [
         (0, Happens::Gives(9, b"quit\n")),
         (0, Happens::Closes(9)),
@@ -57,95 +78,121 @@ fn a_number_that_is_in_use_or_unknown_is_ignored(rt: HostRuntime) {
         (0, Happens::Opens(7, ConnKind::Operator)),
         (5 * SECOND, Happens::Gives(7, part(&rt, &octets, 0, 308))),
     ];
-    let played = play(&rt, rt.alloc(), FILE, 1, &events, &NO_LIMITS);
-    expect_sent(&rt, rt.alloc(), &played, 7, &server_octets(), 7);
-    expect_ends(&rt, &played, 7, (0, 1, 0, 0), 7);
-    expect_ends(&rt, &played, 9, (0, 1, 0, 0), 9);
-    assert_eq!(rt; (played.tally.events, played.tally.end), (6, DeskEnd::End));
+    let wanted = [
+        Wanted::Sent(7, replies.as_slice()),
+        Wanted::HungUp(7, 0),
+        Wanted::HungUp(9, 0),
+        Wanted::Sessions(1, 0, 0),
+        Wanted::Events(6),
+        Wanted::Ends(DeskEnd::End),
+    ];
+    expect_run(&rt, rt.alloc(), &ONE_SLOT, &events, &wanted, 0);
 }
 
 #[test]
 fn an_event_waits_where_a_call_fails(rt: HostRuntime) {
     let octets = client_octets();
-    for call in 1..=3 {
-        let events = [
-            (0, Happens::Opens(7, ConnKind::Control)),
-            (5 * SECOND, Happens::Gives(7, part(&rt, &octets, 0, 308))),
-        ];
-        let limits = Limits {
-            fail_next: &[call],
-            ..NO_LIMITS
+    let replies = server_octets();
+    let wanted = [
+        Wanted::Sent(7, replies.as_slice()),
+        Wanted::HungUp(7, 0),
+        Wanted::Sessions(1, 0, 0),
+        Wanted::Events(3),
+        Wanted::Faults(1),
+    ];
+    let events = [
+        (0, Happens::Opens(7, ConnKind::Control)),
+        (5 * SECOND, Happens::Gives(7, part(&rt, &octets, 0, 308))),
+    ];
+    for call in [1, 2, 3] {
+        let setup = Setup {
+            limits: Limits {
+                fail_next: &[call],
+                ..NO_LIMITS
+            },
+            ..ONE_SLOT
         };
-        let played = play(&rt, rt.alloc(), FILE, 1, &events, &limits);
-        expect_sent(&rt, rt.alloc(), &played, 7, &server_octets(), 0);
-        expect_ends(&rt, &played, 7, (0, 1, 0, 0), 0);
-        assert_eq!(rt;
-            (played.tally.events, played.tally.faults),
-            (3, 1),
-            "call {call}"
-        );
+        expect_run(&rt, rt.alloc(), &setup, &events, &wanted, 0);
     }
 }
 
 /// The numbers from 1 up to the last, but for one.
-fn numbers(rt: &impl Abort, alloc: Global, last: u64, but: u64) -> Vec<u64> {
+fn numbers(stop: &impl Abort, alloc: Global, last: u64, but: u64) -> Vec<u64> {
     let mut all = Vec::new(alloc);
     for number in 1..=last {
         if number != but {
-            all.push(number).expect(rt, "room");
+            all.push(number).expect(stop, "room");
         }
     }
     all
 }
 
+fn let_numbers_go(_numbers: Vec<u64>) {}
+
+/// Runs a desk whose calls for the next event fail up to a number, but for the one of the number `but`.
+fn expect_failing(
+    stop: &impl Abort,
+    alloc: Global,
+    turns: u64,
+    (last, but): (u64, u64),
+    events: &[(u64, Happens)],
+    wanted: &[Wanted],
+) {
+    let failing = numbers(stop, alloc, last, but);
+    let setup = Setup {
+        limits: Limits {
+            fail_next: failing.as_slice(),
+            turns,
+            ..NO_LIMITS
+        },
+        ..ONE_SLOT
+    };
+    expect_run(stop, alloc, &setup, events, wanted, 0);
+    let_numbers_go(failing);
+}
+
+const TICK: &[(u64, Happens)] = &[(0, Happens::Ticks)];
+
 /// Up to which number calls fail, but for the one of this number, which gives a Tick or, without one, the end; and then the
 /// events, the faults and the end.
 #[test]
 fn faults_end_a_desk_only_where_64_come_in_a_row(rt: HostRuntime) {
-    let cases = [
-        (63, 64, 2, 63, DeskEnd::End),
-        (64, 65, 0, 64, DeskEnd::Fault),
-        (127, 64, 2, 126, DeskEnd::End),
-        (128, 64, 1, 127, DeskEnd::Fault),
-    ];
-    for (last, but, events, faults, end) in cases {
-        let failing = numbers(&rt, rt.alloc(), last, but);
-        let limits = Limits {
-            fail_next: failing.as_slice(),
-            ..NO_LIMITS
-        };
-        let played = play(&rt, rt.alloc(), FILE, 1, &[(0, Happens::Ticks)], &limits);
-        let found = (played.tally.events, played.tally.faults, played.tally.end);
-        assert_eq!(rt; found, (events, faults, end));
+    for (calls, events, faults, end) in [
+        ((63, 64), 2, 63, DeskEnd::End),
+        ((64, 65), 0, 64, DeskEnd::Fault),
+        ((127, 64), 2, 126, DeskEnd::End),
+        ((128, 64), 1, 127, DeskEnd::Fault),
+    ] {
+        let wanted = [
+            Wanted::Events(events),
+            Wanted::Faults(faults),
+            Wanted::Ends(end),
+        ];
+        expect_failing(&rt, rt.alloc(), 10_000, calls, TICK, &wanted);
     }
 }
+
+const NOTHING: &[(u64, Happens)] = &[];
+
+const QUITS: &[(u64, Happens)] = &[
+    (0, Happens::Opens(3, ConnKind::Operator)),
+    (0, Happens::Gives(3, b"quit\n")),
+];
 
 /// How many calls for the next event there are, up to which number they fail, and the end of an operator's `quit` and of a
 /// script without it: the budget comes before 64 faults, and behind an end that the desk or an operator tells.
 #[test]
 fn the_ends_of_a_run_are_tried_in_their_order(rt: HostRuntime) {
-    let quits = [
-        (0, Happens::Opens(3, ConnKind::Operator)),
-        (0, Happens::Gives(3, b"quit\n")),
-    ];
-    let nothing: &[(u64, Happens)] = &[];
-    let cases = [
-        (0, 0, nothing, DeskEnd::Budget),
-        (1, 0, nothing, DeskEnd::End),
-        (1, 1, nothing, DeskEnd::Budget),
-        (2, 0, quits.as_slice(), DeskEnd::Quit),
-        (1, 0, quits.as_slice(), DeskEnd::Budget),
-        (64, 64, nothing, DeskEnd::Budget),
-        (65, 64, nothing, DeskEnd::Fault),
-    ];
-    for (turns, last, events, end) in cases {
-        let failing = numbers(&rt, rt.alloc(), last, 0);
-        let limits = Limits {
-            fail_next: failing.as_slice(),
-            turns,
-            ..NO_LIMITS
-        };
-        let played = play(&rt, rt.alloc(), FILE, 1, events, &limits);
-        assert_eq!(rt; played.tally.end, end, "{turns} calls");
+    for (turns, last, events, end) in [
+        (0, 0, NOTHING, DeskEnd::Budget),
+        (1, 0, NOTHING, DeskEnd::End),
+        (1, 1, NOTHING, DeskEnd::Budget),
+        (2, 0, QUITS, DeskEnd::Quit),
+        (1, 0, QUITS, DeskEnd::Budget),
+        (64, 64, NOTHING, DeskEnd::Budget),
+        (65, 64, NOTHING, DeskEnd::Fault),
+    ] {
+        let wanted = [Wanted::Ends(end)];
+        expect_failing(&rt, rt.alloc(), turns, (last, 0), events, &wanted);
     }
 }

@@ -16,6 +16,55 @@ const ONE_SLOT: &str =
 const TWO_SLOTS: &str =
     "locals = [\"192.0.2.10:862\"]\nslots = 2\ntwamp = \"edge\"\n[configs.edge]\n";
 
+const STOPPED_LIVES: &[u8] = b"desk events 7 faults 0 end\nsessions live 1 closed 0 expired 0\n";
+
+const STOPPED_ENDS: &[u8] = b"desk events 8 faults 0 end\nsessions live 0 closed 1 expired 0\n";
+
+const RESERVED_ENDS: &[u8] = b"desk events 9 faults 0 end\nsessions live 0 closed 1 expired 0\n";
+
+const SILENT: &[u8] = b"desk events 4 faults 0 end\nsessions live 0 closed 0 expired 0\n";
+
+const STARTED_LIVES: &[u8] = b"desk events 6 faults 0 end\nsessions live 1 closed 0 expired 0\n";
+
+const STARTED_EXPIRES: &[u8] = b"desk events 7 faults 0 end\nsessions live 0 closed 0 expired 1\n";
+
+const ANEW: &[u8] = b"close 0 192.0.2.1:6000 twamp 0\nopen 0 192.0.2.1:6000 twamp 0 edge 0\n";
+
+const OPENED_ANEW_LIVES: &[u8] =
+    b"desk events 8 faults 0 end\nsessions live 1 closed 1 expired 0\n";
+
+const GREETED_CLOSES: &[u8] = b"desk events 4 faults 0 end\nsessions live 0 closed 0 expired 0\n";
+
+const RESERVED_CLOSES: &[u8] = b"desk events 6 faults 0 end\nsessions live 0 closed 0 expired 0\n";
+
+const STARTED_CLOSES: &[u8] = b"desk events 7 faults 0 end\nsessions live 0 closed 1 expired 0\n";
+
+const STOPPED_CLOSES: &[u8] = b"desk events 8 faults 0 end\nsessions live 1 closed 0 expired 0\n";
+
+const STOPPED_CLOSES_LATE: &[u8] =
+    b"desk events 8 faults 0 end\nsessions live 0 closed 1 expired 0\n";
+
+const STOPPED_TWICE: &[u8] = b"desk events 6 faults 0 end\nsessions live 1 closed 0 expired 0\n";
+
+const RESERVED_HUNG_UP: &[u8] = b"desk events 5 faults 0 end\nsessions live 0 closed 0 expired 0\n";
+
+const STARTED_HUNG_UP: &[u8] = b"desk events 6 faults 0 end\nsessions live 0 closed 1 expired 0\n";
+
+const UNGREETED: &[u8] = b"desk events 2 faults 1 end\nsessions live 0 closed 0 expired 0\n";
+
+const UNSTARTED: &[u8] = b"desk events 3 faults 1 end\nsessions live 0 closed 0 expired 0\n";
+
+const UNRESERVED: &[u8] = b"desk events 4 faults 1 end\nsessions live 0 closed 0 expired 0\n";
+
+const UNTOLD: &[u8] = b"desk events 5 faults 1 end\nsessions live 0 closed 1 expired 0\n";
+
+const ANSWER_OK: &[u8] = b"ok\n";
+
+const ANSWER_OK_0: &[u8] = b"ok 0\n";
+
+/// A message of a type that there isn't.
+const UNKNOWN: &[u8] = b"\x06";
+
 /// The connection of a client that is greeted at moment 0.
 fn greeted(rt: &impl Abort, alloc: Global) -> Talk {
     let mut talk = Talk::new(rt, alloc, None, None);
@@ -61,15 +110,13 @@ fn a_stopped_session_lives_for_its_timeout(rt: HostRuntime) {
     let mut talk = stopped(&rt, alloc);
     talk.ticks(&rt, 9 * SECOND - 1);
     talk.ends(&rt, 9 * SECOND - 1);
-    let living = b"desk events 7 faults 0 end\nsessions live 1 closed 0 expired 0\n";
-    run(&rt, alloc, ONE_SLOT, talk, living);
+    run(&rt, alloc, ONE_SLOT, talk, STOPPED_LIVES);
 
     let mut talk = stopped(&rt, alloc);
     talk.ticks(&rt, 9 * SECOND - 1);
     talk.ticks(&rt, 9 * SECOND);
     talk.ends(&rt, 9 * SECOND);
-    let closed = b"desk events 8 faults 0 end\nsessions live 0 closed 1 expired 0\n";
-    run(&rt, alloc, ONE_SLOT, talk, closed);
+    run(&rt, alloc, ONE_SLOT, talk, STOPPED_ENDS);
 }
 
 #[test]
@@ -85,8 +132,7 @@ fn a_key_that_is_reserved_and_a_full_table_are_told_alike(rt: HostRuntime) {
     talk.gives(&rt, 7 * SECOND, 7, &stop(1));
     talk.ticks(&rt, 9 * SECOND);
     talk.ends(&rt, 9 * SECOND);
-    let report = b"desk events 9 faults 0 end\nsessions live 0 closed 1 expired 0\n";
-    run(&rt, alloc, ONE_SLOT, talk, report);
+    run(&rt, alloc, ONE_SLOT, talk, RESERVED_ENDS);
 }
 
 #[test]
@@ -97,8 +143,7 @@ fn a_silent_client_is_hung_up_after_900_seconds(rt: HostRuntime) {
     talk.ticks(&rt, 900 * SECOND);
     talk.is_hung_up(&rt, 7);
     talk.ends(&rt, 900 * SECOND);
-    let report = b"desk events 4 faults 0 end\nsessions live 0 closed 0 expired 0\n";
-    run(&rt, alloc, ONE_SLOT, talk, report);
+    run(&rt, alloc, ONE_SLOT, talk, SILENT);
 }
 
 #[test]
@@ -107,15 +152,13 @@ fn a_started_session_without_a_datagram_expires_after_900_seconds(rt: HostRuntim
     let mut talk = started(&rt, alloc, 0);
     talk.ticks(&rt, 905 * SECOND - 1);
     talk.ends(&rt, 905 * SECOND - 1);
-    let living = b"desk events 6 faults 0 end\nsessions live 1 closed 0 expired 0\n";
-    run(&rt, alloc, ONE_SLOT, talk, living);
+    run(&rt, alloc, ONE_SLOT, talk, STARTED_LIVES);
 
     let mut talk = started(&rt, alloc, 0);
     talk.ticks(&rt, 905 * SECOND - 1);
     talk.ticks(&rt, 905 * SECOND);
     talk.ends(&rt, 905 * SECOND);
-    let expired = b"desk events 7 faults 0 end\nsessions live 0 closed 0 expired 1\n";
-    run(&rt, alloc, ONE_SLOT, talk, expired);
+    run(&rt, alloc, ONE_SLOT, talk, STARTED_EXPIRES);
 }
 
 #[test]
@@ -123,14 +166,12 @@ fn a_session_that_an_operator_opened_anew_outlives_its_client(rt: HostRuntime) {
     let alloc = rt.alloc();
     let mut talk = started(&rt, alloc, 1);
     talk.opens(&rt, 5 * SECOND, 3, ConnKind::Operator);
-    let lines = b"close 0 192.0.2.1:6000 twamp 0\nopen 0 192.0.2.1:6000 twamp 0 edge 0\n";
-    talk.gives(&rt, 5 * SECOND, 3, lines);
-    talk.is_sent(&rt, 3, b"ok 0\n");
-    talk.is_sent(&rt, 3, b"ok\n");
+    talk.gives(&rt, 5 * SECOND, 3, ANEW);
+    talk.is_sent(&rt, 3, ANSWER_OK_0);
+    talk.is_sent(&rt, 3, ANSWER_OK);
     talk.closes(&rt, 5 * SECOND, 7);
     talk.ends(&rt, 5 * SECOND);
-    let report = b"desk events 8 faults 0 end\nsessions live 1 closed 1 expired 0\n";
-    run(&rt, alloc, TWO_SLOTS, talk, report);
+    run(&rt, alloc, TWO_SLOTS, talk, OPENED_ANEW_LIVES);
 }
 
 /// A client goes away, and time passes.
@@ -147,20 +188,15 @@ fn goes_away(rt: &impl Abort, mut talk: Talk, second: u64) -> Talk
 fn a_connection_that_closes_ends_its_sessions(rt: HostRuntime) {
     let alloc = rt.alloc();
     let talk = goes_away(&rt, greeted(&rt, alloc), 8);
-    let none = b"desk events 4 faults 0 end\nsessions live 0 closed 0 expired 0\n";
-    run(&rt, alloc, ONE_SLOT, talk, none);
+    run(&rt, alloc, ONE_SLOT, talk, GREETED_CLOSES);
     let talk = goes_away(&rt, reserved(&rt, alloc, 0), 8);
-    let abandoned = b"desk events 6 faults 0 end\nsessions live 0 closed 0 expired 0\n";
-    run(&rt, alloc, ONE_SLOT, talk, abandoned);
+    run(&rt, alloc, ONE_SLOT, talk, RESERVED_CLOSES);
     let talk = goes_away(&rt, started(&rt, alloc, 0), 8);
-    let closed = b"desk events 7 faults 0 end\nsessions live 0 closed 1 expired 0\n";
-    run(&rt, alloc, ONE_SLOT, talk, closed);
+    run(&rt, alloc, ONE_SLOT, talk, STARTED_CLOSES);
     let talk = goes_away(&rt, stopped(&rt, alloc), 8);
-    let living = b"desk events 8 faults 0 end\nsessions live 1 closed 0 expired 0\n";
-    run(&rt, alloc, ONE_SLOT, talk, living);
+    run(&rt, alloc, ONE_SLOT, talk, STOPPED_CLOSES);
     let talk = goes_away(&rt, stopped(&rt, alloc), 9);
-    let ended = b"desk events 8 faults 0 end\nsessions live 0 closed 1 expired 0\n";
-    run(&rt, alloc, ONE_SLOT, talk, ended);
+    run(&rt, alloc, ONE_SLOT, talk, STOPPED_CLOSES_LATE);
 }
 
 /// A client is hung up for its last message.
@@ -175,16 +211,13 @@ fn hung_up(rt: &impl Abort, mut talk: Talk, message: &[u8]) -> Talk {
 fn a_message_out_of_turn_ends_the_connection_and_its_sessions(rt: HostRuntime) {
     let alloc = rt.alloc();
     let talk = hung_up(&rt, started(&rt, alloc, 0), &stop(2));
-    let stopped = b"desk events 6 faults 0 end\nsessions live 1 closed 0 expired 0\n";
-    run(&rt, alloc, ONE_SLOT, talk, stopped);
+    run(&rt, alloc, ONE_SLOT, talk, STOPPED_TWICE);
     let talk = hung_up(&rt, reserved(&rt, alloc, 0), &stop(1));
-    let abandoned = b"desk events 5 faults 0 end\nsessions live 0 closed 0 expired 0\n";
-    run(&rt, alloc, ONE_SLOT, talk, abandoned);
+    run(&rt, alloc, ONE_SLOT, talk, RESERVED_HUNG_UP);
     let talk = hung_up(&rt, started(&rt, alloc, 0), &request(0));
-    let closed = b"desk events 6 faults 0 end\nsessions live 0 closed 1 expired 0\n";
-    run(&rt, alloc, ONE_SLOT, talk, closed);
-    let talk = hung_up(&rt, reserved(&rt, alloc, 0), b"\x06");
-    run(&rt, alloc, ONE_SLOT, talk, abandoned);
+    run(&rt, alloc, ONE_SLOT, talk, STARTED_HUNG_UP);
+    let talk = hung_up(&rt, reserved(&rt, alloc, 0), UNKNOWN);
+    run(&rt, alloc, ONE_SLOT, talk, RESERVED_HUNG_UP);
 }
 
 #[test]
@@ -195,30 +228,26 @@ fn a_message_that_cannot_be_sent_ends_the_connection(rt: HostRuntime) {
     talk.is_lost(&rt, 7, &greeting());
     talk.is_hung_up(&rt, 7);
     talk.ends(&rt, 0);
-    let ungreeted = b"desk events 2 faults 1 end\nsessions live 0 closed 0 expired 0\n";
-    run(&rt, alloc, ONE_SLOT, talk, ungreeted);
+    run(&rt, alloc, ONE_SLOT, talk, UNGREETED);
 
     let mut talk = greeted(&rt, alloc);
     talk.gives(&rt, 0, 7, &set_up());
     talk.is_lost(&rt, 7, &server_start());
     talk.is_hung_up(&rt, 7);
     talk.ends(&rt, 0);
-    let unstarted = b"desk events 3 faults 1 end\nsessions live 0 closed 0 expired 0\n";
-    run(&rt, alloc, ONE_SLOT, talk, unstarted);
+    run(&rt, alloc, ONE_SLOT, talk, UNSTARTED);
 
     let mut talk = set_up_at_0(&rt, alloc);
     talk.gives(&rt, 5 * SECOND, 7, &request(0));
     talk.is_lost(&rt, 7, &acceptance(0));
     talk.is_hung_up(&rt, 7);
     talk.ends(&rt, 5 * SECOND);
-    let abandoned = b"desk events 4 faults 1 end\nsessions live 0 closed 0 expired 0\n";
-    run(&rt, alloc, ONE_SLOT, talk, abandoned);
+    run(&rt, alloc, ONE_SLOT, talk, UNRESERVED);
 
     let mut talk = reserved(&rt, alloc, 0);
     talk.gives(&rt, 5 * SECOND, 7, &start());
     talk.is_lost(&rt, 7, &START_ACK);
     talk.is_hung_up(&rt, 7);
     talk.ends(&rt, 5 * SECOND);
-    let closed = b"desk events 5 faults 1 end\nsessions live 0 closed 1 expired 0\n";
-    run(&rt, alloc, ONE_SLOT, talk, closed);
+    run(&rt, alloc, ONE_SLOT, talk, UNTOLD);
 }

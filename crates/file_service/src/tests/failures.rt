@@ -1,11 +1,12 @@
 //! Runs in which calls fail, or budgets are spent.
 
+ghost use Rattle.std.specs.Prelude.{All};
 ghost use Rattle.net_io.specs.ScriptPort.{IsWhole};
 
-use super::{NAME, one_file};
+use super::{NAME, one_file, one_number};
 use crate::run_file;
 use net_io::{PortItem, ScriptDesk, ScriptPort};
-use port_io::MemSink;
+use port_io::{MemFiles, MemSink};
 use refl_types::{Address, Endpoint, Meta};
 use std::alloc::Global;
 use std::process::Abort;
@@ -73,20 +74,30 @@ fn first_item(rt: &impl Abort, alloc: Global, is_datagram: bool) -> PortItem
     PortItem::Datagram { meta: META, octets }
 }
 
-/// A port that gives a datagram or nothing, then nothing twice, and then its end.
-fn port(rt: &impl Abort, alloc: Global, case: &Case) -> ScriptPort {
+/// A datagram or nothing, then nothing twice.
+fn three_items(rt: &impl Abort, alloc: Global, is_datagram: bool) -> Vec<PortItem>
+    ensures { All IsWhole result.items }
+{
+    let first = first_item(rt, alloc, is_datagram);
     let mut items = Vec::new(alloc);
-    let first = first_item(rt, alloc, case.is_asked);
     items.push(first).expect(rt, "room");
     items.push(PortItem::Nothing).expect(rt, "room");
     items.push(PortItem::Nothing).expect(rt, "room");
+    items
+}
+
+/// A port that gives a datagram or nothing, then nothing twice, and then its end.
+fn port(rt: &impl Abort, alloc: Global, case: &Case) -> ScriptPort {
+    let items = three_items(rt, alloc, case.is_asked);
+    let opens = first_calls(rt, alloc, case.opens);
+    let receives = first_calls(rt, alloc, case.receives);
     ScriptPort::make(
         alloc,
         items,
         Vec::new(alloc),
-        first_calls(rt, alloc, case.opens),
+        opens,
         Vec::new(alloc),
-        first_calls(rt, alloc, case.receives),
+        receives,
         Vec::new(alloc),
         100,
         100,
@@ -94,26 +105,50 @@ fn port(rt: &impl Abort, alloc: Global, case: &Case) -> ScriptPort {
     .expect(rt, "a port")
 }
 
-/// Ends the test where something else comes of a case.
-fn expect_case<R: Threads + Abort + Sync>(rt: &R, alloc: Global, case: &Case) {
-    let mut files = one_file(rt, alloc, case.text);
-    let failing = Vec::from_slice(alloc, &[case.write]).expect(rt, "a number");
-    let mut out = MemSink::make(alloc, 1000, failing).expect(rt, "a sink");
-    let mut ports = [port(rt, alloc, case)];
-    let mut desk = ScriptDesk::make(
+fn one_port(rt: &impl Abort, alloc: Global, case: &Case) -> Vec<ScriptPort> {
+    let port = port(rt, alloc, case);
+    let mut ports = Vec::new(alloc);
+    ports.push(port).expect(rt, "room");
+    ports
+}
+
+fn desk(rt: &impl Abort, alloc: Global, case: &Case) -> ScriptDesk {
+    let opens = first_calls(rt, alloc, case.desk_opens);
+    let nexts = first_calls(rt, alloc, case.nexts);
+    ScriptDesk::make(
         alloc,
         Vec::new(alloc),
-        first_calls(rt, alloc, case.desk_opens),
-        first_calls(rt, alloc, case.nexts),
+        opens,
+        nexts,
         Vec::new(alloc),
         100,
         100,
     )
-    .expect(rt, "a desk");
-    let status = run_file(rt, alloc, NAME, &mut files, &mut out, &mut ports, &mut desk);
+    .expect(rt, "a desk")
+}
+
+/// Ends the test where something else comes of a case.
+fn expect_case<R: Threads + Abort + Sync>(rt: &R, alloc: Global, case: &Case) {
+    let mut files = one_file(rt, alloc, case.text);
+    let failing = one_number(rt, alloc, case.write);
+    let mut out = MemSink::make(alloc, 1000, failing).expect(rt, "a sink");
+    let mut ports = one_port(rt, alloc, case);
+    let mut desk = desk(rt, alloc, case);
+    let status = run_file(
+        rt,
+        alloc,
+        NAME,
+        &mut files,
+        &mut out,
+        ports.as_mut_slice(),
+        &mut desk,
+    );
     assert_eq!(rt; status, case.status);
     assert_eq!(rt; out.written(), case.written);
+    let_go(files, out, ports, desk);
 }
+
+fn let_go(_files: MemFiles, _out: MemSink, _ports: Vec<ScriptPort>, _desk: ScriptDesk) {}
 
 #[test]
 fn a_run_in_which_nothing_fails_ends_with_0_and_its_report(rt: HostRuntime) {

@@ -220,7 +220,9 @@ impl Stage {
     /// The first worker's work up to the end of what a port is to give.
     pub fn work_out(&mut self, rt: &impl Abort, script: Script) -> Tally {
         let mut port = script.port(rt, &[], &[], &[]);
-        self.work(&mut port, 0, 10_000)
+        let tally = self.work(&mut port, 0, 10_000);
+        let_go_port(port);
+        tally
     }
 
     /// One turn of the first worker, where its port gives a datagram.
@@ -248,8 +250,14 @@ fn served(
 {
     let mut stage = Stage::new(rt, alloc, 4);
     stage.open(rt, session, config);
-    stage.work(port, 0, 1_000)
+    let tally = stage.work(port, 0, 1_000);
+    let_go(stage);
+    tally
 }
+
+fn let_go(_stage: Stage) {}
+
+fn let_go_port(_port: ScriptPort) {}
 
 /// What a plain session's worker does with five requests.
 pub fn five(

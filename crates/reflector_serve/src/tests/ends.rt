@@ -1,13 +1,10 @@
 //! Sessions of a client of TWAMP-Control, and sessions that wait, while a worker answers.
 
-use super::desk_side::DeskSide;
-use super::order::Order;
-use super::packets::{PLAIN, SENDING, TWAMP, ntp_reply, sender, twamp_reply};
-use super::port_side::PortSide;
-use super::{answered, run};
+use super::NOTHING;
+use super::packets::Packet;
+use super::play::{Run, Step, expect};
 use control_desk::{DeskEnd, DeskTally};
 use receive_worker::Tally;
-use std::process::Abort;
 
 /// A second, in nanoseconds.
 const SECOND: u64 = 1_000_000_000;
@@ -15,141 +12,140 @@ const SECOND: u64 = 1_000_000_000;
 const CLIENTS: &str =
     "locals = [\"192.0.2.10:862\"]\nslots = 1\ntwamp = \"edge\"\n[configs.edge]\n";
 
-/// Set-Up-Response, Request-TW-Session, Start-Sessions and Stop-Sessions of a client that has one session, of port 6000,
-/// with a Timeout of two seconds (RFC 5357, section 3).
-fn client_octets() -> [u8; 340] {
-    let mut octets = [0; 340];
-    octets[3] = 97;
-    octets[164] = 5;
-    octets[165] = 4;
-    octets[176] = 0x17;
-    octets[177] = 0x70;
-    octets[178] = 0x13;
-    octets[179] = 0x89;
-    octets[243] = 2;
-    octets[276] = 2;
-    octets[308] = 3;
-    octets[315] = 1;
-    octets
-}
+/// Set-Up-Response of a client in mode Open (RFC 4656, section 3.1).
+const SET_UP: [u8; 164] = [
+    0, 0, 0, 0x61, 0, 0, 0, 0, 0, 0, 0, 0, 0, 0, 0, 0, 0, 0, 0, 0, 0, 0, 0, 0, 0, 0, 0, 0, 0, 0, 0,
+    0, 0, 0, 0, 0, 0, 0, 0, 0, 0, 0, 0, 0, 0, 0, 0, 0, 0, 0, 0, 0, 0, 0, 0, 0, 0, 0, 0, 0, 0, 0, 0,
+    0, 0, 0, 0, 0, 0, 0, 0, 0, 0, 0, 0, 0, 0, 0, 0, 0, 0, 0, 0, 0, 0, 0, 0, 0, 0, 0, 0, 0, 0, 0, 0,
+    0, 0, 0, 0, 0, 0, 0, 0, 0, 0, 0, 0, 0, 0, 0, 0, 0, 0, 0, 0, 0, 0, 0, 0, 0, 0, 0, 0, 0, 0, 0, 0,
+    0, 0, 0, 0, 0, 0, 0, 0, 0, 0, 0, 0, 0, 0, 0, 0, 0, 0, 0, 0, 0, 0, 0, 0, 0, 0, 0, 0, 0, 0, 0, 0,
+    0, 0, 0, 0, 0,
+];
 
-/// Server Greeting, Server-Start, Accept-Session and Start-Ack, of a desk that was started at moment 0 and asked at second 5.
-fn server_octets() -> [u8; 192] {
-    let mut octets = [0; 192];
-    octets[15] = 0x61;
-    octets[50] = 0x04;
-    octets[96] = 0x83;
-    octets[97] = 0xAA;
-    octets[98] = 0x7E;
-    octets[99] = 0x80;
-    octets[114] = 0x03;
-    octets[115] = 0x5E;
-    octets[123] = 1;
-    octets[127] = 1;
-    octets[128] = 0x2A;
-    octets[129] = 0x05;
-    octets[130] = 0xF2;
-    octets
-}
+/// Its Request-TW-Session of a session of port 6000, with a Timeout of two seconds (RFC 5357, section 3.5).
+const REQUEST: [u8; 112] = [
+    5, 4, 0, 0, 0, 0, 0, 0, 0, 0, 0, 0, 0x17, 0x70, 0x13, 0x89, 0, 0, 0, 0, 0, 0, 0, 0, 0, 0, 0, 0,
+    0, 0, 0, 0, 0, 0, 0, 0, 0, 0, 0, 0, 0, 0, 0, 0, 0, 0, 0, 0, 0, 0, 0, 0, 0, 0, 0, 0, 0, 0, 0, 0,
+    0, 0, 0, 0, 0, 0, 0, 0, 0, 0, 0, 0, 0, 0, 0, 0, 0, 0, 0, 2, 0, 0, 0, 0, 0, 0, 0, 0, 0, 0, 0, 0,
+    0, 0, 0, 0, 0, 0, 0, 0, 0, 0, 0, 0, 0, 0, 0, 0, 0, 0, 0, 0,
+];
 
-/// Octets from a place to another.
-fn part<'a>(rt: &impl Abort, octets: &'a [u8], from: usize, to: usize) -> &'a [u8] {
-    assert!(rt; from <= to && to <= octets.len());
-    &octets[from..to]
-}
+/// Its Start-Sessions.
+const START: [u8; 32] = [
+    2, 0, 0, 0, 0, 0, 0, 0, 0, 0, 0, 0, 0, 0, 0, 0, 0, 0, 0, 0, 0, 0, 0, 0, 0, 0, 0, 0, 0, 0, 0, 0,
+];
+
+/// Its Stop-Sessions, of one session.
+const STOP: [u8; 32] = [
+    3, 0, 0, 0, 0, 0, 0, 1, 0, 0, 0, 0, 0, 0, 0, 0, 0, 0, 0, 0, 0, 0, 0, 0, 0, 0, 0, 0, 0, 0, 0, 0,
+];
+
+/// Server Greeting of a desk that was started at moment 0.
+const GREETING: [u8; 64] = [
+    0, 0, 0, 0, 0, 0, 0, 0, 0, 0, 0, 0, 0, 0, 0, 0x61, 0, 0, 0, 0, 0, 0, 0, 0, 0, 0, 0, 0, 0, 0, 0,
+    0, 0, 0, 0, 0, 0, 0, 0, 0, 0, 0, 0, 0, 0, 0, 0, 0, 0, 0, 4, 0, 0, 0, 0, 0, 0, 0, 0, 0, 0, 0, 0,
+    0,
+];
+
+/// Its Server-Start.
+const SERVER_START: [u8; 48] = [
+    0, 0, 0, 0, 0, 0, 0, 0, 0, 0, 0, 0, 0, 0, 0, 0, 0, 0, 0, 0, 0, 0, 0, 0, 0, 0, 0, 0, 0, 0, 0, 0,
+    0x83, 0xaa, 0x7e, 0x80, 0, 0, 0, 0, 0, 0, 0, 0, 0, 0, 0, 0,
+];
+
+/// Its Accept-Session, where it was asked at second 5.
+const ACCEPT: [u8; 48] = [
+    0, 0, 3, 0x5e, 0, 0, 0, 0, 0, 0, 0, 1, 0, 0, 0, 1, 0x2a, 5, 0xf2, 0, 0, 0, 0, 0, 0, 0, 0, 0, 0,
+    0, 0, 0, 0, 0, 0, 0, 0, 0, 0, 0, 0, 0, 0, 0, 0, 0, 0, 0,
+];
+
+/// Its Start-Ack.
+const START_ACK: [u8; 32] = [
+    0, 0, 0, 0, 0, 0, 0, 0, 0, 0, 0, 0, 0, 0, 0, 0, 0, 0, 0, 0, 0, 0, 0, 0, 0, 0, 0, 0, 0, 0, 0, 0,
+];
+
+const TALKS: [Step; 16] = [
+    Step::Client(&GREETING),
+    Step::Talk(0, &SET_UP, &SERVER_START),
+    Step::Talk(5 * SECOND, &REQUEST, &ACCEPT),
+    Step::Takes(0, 6000, Packet::Twamp),
+    Step::Talk(5 * SECOND, &START, &START_ACK),
+    Step::Takes(0, 6000, Packet::Twamp),
+    Step::Sends(0, 6000, Packet::TwampReply(0)),
+    Step::Talk(7 * SECOND, &STOP, b""),
+    Step::Takes(0, 6000, Packet::Twamp),
+    Step::Sends(0, 6000, Packet::TwampReply(1)),
+    Step::Tick(9 * SECOND - 1),
+    Step::Takes(0, 6000, Packet::Twamp),
+    Step::Sends(0, 6000, Packet::TwampReply(2)),
+    Step::Tick(9 * SECOND),
+    Step::Takes(0, 6000, Packet::Twamp),
+    Step::End(9 * SECOND),
+];
 
 #[test]
 fn the_session_of_a_client_is_answered_from_its_start_to_its_timeout(rt: HostRuntime) {
-    let alloc = rt.alloc();
-    let from = sender(6000);
-    let (client, server) = (client_octets(), server_octets());
-    let mut desk = DeskSide::new(&rt, alloc);
-    let mut port = PortSide::new(alloc);
-    port.tells(&rt, 0);
-    desk.opens_client(&rt, 0, 7, part(&rt, &server, 0, 64));
-    desk.gives(&rt, 1, 0, 7, part(&rt, &client, 0, 164));
-    desk.sends(&rt, 7, part(&rt, &server, 64, 112));
-    desk.gives(&rt, 2, 5 * SECOND, 7, part(&rt, &client, 164, 276));
-    desk.sends(&rt, 7, part(&rt, &server, 112, 160));
-    port.takes(&rt, 3, &from, &TWAMP);
-    desk.gives(&rt, 4, 5 * SECOND, 7, part(&rt, &client, 276, 308));
-    desk.sends(&rt, 7, part(&rt, &server, 160, 192));
-    port.takes(&rt, 5, &from, &TWAMP);
-    port.sends(&rt, SENDING, &from, &twamp_reply(0));
-    desk.gives(&rt, 6, 7 * SECOND, 7, part(&rt, &client, 308, 340));
-    port.takes(&rt, 7, &from, &TWAMP);
-    port.sends(&rt, SENDING, &from, &twamp_reply(1));
-    desk.ticks(&rt, 8, 9 * SECOND - 1);
-    port.takes(&rt, 9, &from, &TWAMP);
-    port.sends(&rt, SENDING, &from, &twamp_reply(2));
-    desk.ticks(&rt, 10, 9 * SECOND);
-    port.takes(&rt, 11, &from, &TWAMP);
-    desk.ends(&rt, 12, 9 * SECOND);
-
-    let order = Order::new(&rt, alloc);
-    let mut ports = [port.port(&rt, &order)];
-    let mut desk = desk.desk(&rt, &order);
-    let report = run(&rt, alloc, CLIENTS, &mut ports, &mut desk).expect(&rt, "a report");
-    ports[0].expect_done(&rt, alloc);
-    desk.expect_done(&rt, alloc);
-    let tally = Tally {
-        taken: 5,
-        no_session: 2,
-        ..answered(3)
+    let play = Run {
+        text: CLIENTS,
+        moment: 0,
+        steps: &TALKS,
+        tallies: &[Tally {
+            taken: 5,
+            sent: 3,
+            no_session: 2,
+            ..NOTHING
+        }],
+        desk: DeskTally {
+            events: 8,
+            faults: 0,
+            closed: 1,
+            expired: 0,
+            end: DeskEnd::End,
+        },
+        live: 0,
     };
-    assert_eq!(rt; report.workers.as_slice(), [tally].as_slice());
-    let ended = DeskTally {
-        events: 8,
-        faults: 0,
-        closed: 1,
-        expired: 0,
-        end: DeskEnd::End,
-    };
-    assert_eq!(rt; report.desk, ended);
-    assert_eq!(rt; report.live, 0);
+    expect(&rt, rt.alloc(), &play);
 }
 
 const WAITING: &str =
     "locals = [\"192.0.2.10:862\"]\n[configs.edge]\n[[sessions]]\npeer = \"192.0.2.1:5000\"\nssid = 7\nconfig = \"edge\"\nwait = 10\n";
 
+const PLAIN: Packet = Packet::Plain(b"");
+
+const WAITS: [Step; 11] = [
+    Step::Tick(15 * SECOND - 1),
+    Step::Takes(0, 5000, PLAIN),
+    Step::Sends(0, 5000, Packet::Ntp(0, 1, b"")),
+    Step::Tick(15 * SECOND),
+    Step::Tick(25 * SECOND - 1),
+    Step::Takes(0, 5000, PLAIN),
+    Step::Sends(0, 5000, Packet::Ntp(1, 1, b"")),
+    Step::Tick(25 * SECOND),
+    Step::Tick(35 * SECOND),
+    Step::Takes(0, 5000, PLAIN),
+    Step::End(35 * SECOND),
+];
+
 #[test]
 fn a_session_that_is_answered_lives_on_and_expires_once_it_is_silent(rt: HostRuntime) {
-    let alloc = rt.alloc();
-    let from = sender(5000);
-    let mut desk = DeskSide::new(&rt, alloc);
-    let mut port = PortSide::new(alloc);
-    port.tells(&rt, 5 * SECOND);
-    desk.ticks(&rt, 0, 15 * SECOND - 1);
-    port.takes(&rt, 1, &from, &PLAIN);
-    port.sends(&rt, SENDING, &from, &ntp_reply(0, 1));
-    desk.ticks(&rt, 2, 15 * SECOND);
-    desk.ticks(&rt, 3, 25 * SECOND - 1);
-    port.takes(&rt, 4, &from, &PLAIN);
-    port.sends(&rt, SENDING, &from, &ntp_reply(1, 1));
-    desk.ticks(&rt, 5, 25 * SECOND);
-    desk.ticks(&rt, 6, 35 * SECOND);
-    port.takes(&rt, 7, &from, &PLAIN);
-    desk.ends(&rt, 8, 35 * SECOND);
-
-    let order = Order::new(&rt, alloc);
-    let mut ports = [port.port(&rt, &order)];
-    let mut desk = desk.desk(&rt, &order);
-    let report = run(&rt, alloc, WAITING, &mut ports, &mut desk).expect(&rt, "a report");
-    ports[0].expect_done(&rt, alloc);
-    desk.expect_done(&rt, alloc);
-    let tally = Tally {
-        taken: 3,
-        no_session: 1,
-        ..answered(2)
+    let play = Run {
+        text: WAITING,
+        moment: 5 * SECOND,
+        steps: &WAITS,
+        tallies: &[Tally {
+            taken: 3,
+            sent: 2,
+            no_session: 1,
+            ..NOTHING
+        }],
+        desk: DeskTally {
+            events: 6,
+            faults: 0,
+            closed: 0,
+            expired: 1,
+            end: DeskEnd::End,
+        },
+        live: 0,
     };
-    assert_eq!(rt; report.workers.as_slice(), [tally].as_slice());
-    let ended = DeskTally {
-        events: 6,
-        faults: 0,
-        closed: 0,
-        expired: 1,
-        end: DeskEnd::End,
-    };
-    assert_eq!(rt; report.desk, ended);
-    assert_eq!(rt; report.live, 0);
+    expect(&rt, rt.alloc(), &play);
 }
