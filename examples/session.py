@@ -1,7 +1,9 @@
 # SPDX-License-Identifier: Apache-2.0
 """Serves by examples/lab.toml, sends datagrams to the daemon, operates it by stampctl, and shows what comes of it."""
 
+import contextlib
 import pathlib
+import signal
 import socket
 import subprocess
 import sys
@@ -15,6 +17,7 @@ SESSION = ["0", "127.0.0.1:5000", "plain", "7"]
 NTP_EPOCH = 2_208_988_800
 LEAP_SECONDS = 37
 PATIENCE = 5
+COMPILATION = 900  # seconds that it may take, on a machine that is busy
 
 
 def tlv(kind, value):
@@ -71,9 +74,9 @@ def stampctl(*words):
     subprocess.run([sys.executable, "-B", TOP / "stampctl", "-s", "%s:%d" % OPERATOR, *words], check=True)
 
 
-def wait_for(daemon):
+def wait_for(daemon, seconds):
     """Whether an operator can connect, before the daemon ends."""
-    until = time.monotonic() + PATIENCE
+    until = time.monotonic() + seconds
     while daemon.poll() is None and time.monotonic() < until:
         with socket.socket() as one:
             if one.connect_ex(OPERATOR) == 0:
@@ -82,7 +85,7 @@ def wait_for(daemon):
     return False
 
 
-def show(sender):
+def talk(sender):
     print(f"\nA session sender at {SENDER[0]}:{SENDER[1]}, SSID {SSID}, sends to {REFLECTOR[0]}:{REFLECTOR[1]}:\n")
     for place, (what, tail) in enumerate(DATAGRAMS):
         exchange(sender, 100 + place, what, tail)
@@ -95,27 +98,46 @@ def show(sender):
     stampctl("quit")
 
 
-def main():
-    print(f"$ stampd run {FILE.relative_to(TOP)} &", flush=True)
-    daemon = subprocess.Popen([sys.argv[1], "run", FILE], stdin=subprocess.DEVNULL, stdout=subprocess.PIPE, text=True)
+@contextlib.contextmanager
+def started(words, **streams):
+    """A program that is ended with this, at whichever moment a signal comes: by one that it may act on, or else at once."""
+    signals = (signal.SIGINT, signal.SIGTERM, signal.SIGHUP)
+    unblock = lambda: signal.pthread_sigmask(signal.SIG_UNBLOCK, signals)
+    signal.pthread_sigmask(signal.SIG_BLOCK, signals)
+    process = subprocess.Popen(words, preexec_fn=unblock, **streams)
     try:
-        if not wait_for(daemon):
-            daemon.kill()
-            print(f"The daemon doesn't serve. {daemon.communicate()[0]}", file=sys.stderr)
-            return 1
-        with socket.socket(socket.AF_INET, socket.SOCK_DGRAM) as sender:
-            sender.settimeout(PATIENCE)
-            sender.bind(SENDER)
-            show(sender)
-        print("\nThe daemon's report:\n\n" + daemon.communicate(timeout=PATIENCE)[0], end="")
-        return daemon.returncode
+        unblock()
+        yield process
+    finally:
+        if process.poll() is None:
+            process.terminate()
+            try:
+                process.wait(4 * PATIENCE)
+            except subprocess.TimeoutExpired:
+                process.kill()
+
+
+def show(program, waiting, tried):
+    """Shows a session with a daemon of the program. A tried one is compiled first, while which waiting is told."""
+    print(f"$ stampd run {FILE.relative_to(TOP)} &", flush=True)
+    streams = {"stdin": subprocess.DEVNULL, "stdout": subprocess.PIPE, "stderr": subprocess.PIPE if tried else None}
+    try:
+        with started([program, "run", FILE], text=True, **streams) as daemon:
+            with waiting:
+                serves = wait_for(daemon, COMPILATION if tried else PATIENCE)
+            if not serves:
+                daemon.terminate()
+                print("The daemon doesn't serve.", *filter(None, daemon.communicate()), file=sys.stderr)
+                return 1
+            with socket.socket(socket.AF_INET, socket.SOCK_DGRAM) as sender:
+                sender.settimeout(PATIENCE)
+                sender.bind(SENDER)
+                talk(sender)
+            report, faults = daemon.communicate(timeout=6 * PATIENCE if tried else PATIENCE)
     except (OSError, subprocess.SubprocessError) as fault:
         print(f"demo: {fault}", file=sys.stderr)
         return 1
-    finally:
-        if daemon.poll() is None:
-            daemon.kill()
-
-
-if __name__ == "__main__":
-    sys.exit(main())
+    print("\nThe daemon's report:\n\n" + report, end="", flush=True)
+    if daemon.returncode and faults:
+        print(faults, end="", file=sys.stderr)
+    return daemon.returncode

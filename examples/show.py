@@ -2,8 +2,10 @@
 """Replays a stream and prints each record beside its answer, with the fields named."""
 
 import itertools
-import subprocess
 import sys
+from subprocess import PIPE
+
+import session
 
 MODES = ("plain", "authenticated", "TWAMP")
 OPENINGS = ("opened", "duplicate", "clash of modes", "full", "rows full", "no key")
@@ -163,18 +165,22 @@ def beside(left, right):
     print()
 
 
-def main():
-    program, path = sys.argv[1:]
+def show(program, path, waiting, tried):
+    """Shows a replay by the program. A tried one is compiled first, while which waiting is told."""
     try:
         with open(path, "rb") as file:
             stream = file.read()
-        ended = subprocess.run([program, "replay"], input=stream, capture_output=True)
+        with session.started([program, "replay"], stdin=PIPE, stdout=PIPE, stderr=PIPE) as process, waiting:
+            answers, faults = process.communicate(stream)
     except OSError as fault:
         print(f"{fault.filename}: {fault.strerror}", file=sys.stderr)
         return 1
+    if tried and process.returncode == 1:
+        print(faults.decode(errors="replace"), end="", file=sys.stderr)
+        return 1
     sessions = Sessions()
     given = itertools.chain(records(stream), itertools.repeat((None, b"")))
-    for (told, answer), (tag, body) in zip(records(ended.stdout), given):
+    for (told, answer), (tag, body) in zip(records(answers), given):
         if told == 0xFF:
             print(f"  the stream leaves its grammar at octet {number(answer)}\n")
         else:
@@ -183,13 +189,6 @@ def main():
                 4: sessions.datagram_lines, 5: sessions.locals_lines,
             }
             beside(*lines[tag](body, answer))
-    end = ENDS.get(ended.returncode, "the program was stopped")
-    print(f"{len(ended.stdout)} octets of answers, status {ended.returncode}: {end}")
-    return ended.returncode
-
-
-if __name__ == "__main__":
-    try:
-        sys.exit(main())
-    except BrokenPipeError:
-        sys.exit(141)
+    end = ENDS.get(process.returncode, "the program was stopped")
+    print(f"{len(answers)} octets of answers, status {process.returncode}: {end}", flush=True)
+    return process.returncode
