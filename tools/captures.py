@@ -1,6 +1,7 @@
 # SPDX-License-Identifier: Apache-2.0
 """Reads UDP datagrams from a capture, and writes some to one: pcap, and for reading pcapng too."""
 
+import ipaddress
 import struct
 from typing import NamedTuple
 
@@ -20,6 +21,10 @@ class Endpoint(NamedTuple):
     address: bytes  # 4 or 16 octets
     port: int
 
+    def __str__(self):
+        host = ipaddress.ip_address(self.address)
+        return f"{host}:{self.port}" if host.version == 4 else f"[{host}]:{self.port}"
+
 
 class Datagram(NamedTuple):
     moment: int  # nanoseconds since the start of 1970
@@ -34,10 +39,13 @@ class Datagram(NamedTuple):
 
 def read(octets):
     """The whole UDP datagrams of a capture, in its order. Fragments and frames that were cut short are left out."""
-    for link, moment, frame in frames(octets):
-        found = in_frame(link, moment, frame)
-        if found is not None:
-            yield found
+    try:
+        for link, moment, frame in frames(octets):
+            found = in_frame(link, moment, frame)
+            if found is not None:
+                yield found
+    except (IndexError, struct.error):
+        raise CaptureFault("a block of the capture is damaged") from None
 
 
 def frames(octets):
