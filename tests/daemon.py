@@ -54,6 +54,7 @@ def numbered(found):
 
 def read_report(text):
     """The report that a text spells, line by line. It is an AssertionError where it spells none."""
+    assert text.count("\n") > 2, f"no report: {text!r}"
     *workers, desk, sessions, last = text.split("\n")
     found = [WORKER.fullmatch(line) for line in workers] + [DESK.fullmatch(desk), SESSIONS.fullmatch(sessions)]
     if not all(found) or last:
