@@ -1,7 +1,8 @@
 # SPDX-License-Identifier: Apache-2.0
-"""The metrics of stampctl."""
+"""The metrics of stampctl, and what stands beside them for Prometheus."""
 
 import contextlib
+import json
 import os
 import pathlib
 import re
@@ -12,6 +13,9 @@ import time
 import urllib.request
 
 from stampctl_calls import *
+
+PROMETHEUS = TOP / "packaging" / "prometheus"
+
 
 # ---- metrics
 
@@ -124,3 +128,44 @@ def export_tells_a_package_that_is_missing(program, folder):
     pathlib.Path(folder, "prometheus_client.py").write_text("raise ImportError\n")
     told, status = output(STAMPCTL, "export", env=os.environ | {"PYTHONPATH": folder})
     assert status == 7 and told.count("\n") == 1 and "python3-prometheus-client" in told, told
+
+
+# ---- prometheus files
+
+
+@check
+def promtool_takes_the_metrics_and_the_rules(program, folder):
+    wanted_tool("promtool")
+    with serving(program, folder, session("192.0.2.1:5000")) as (_, server, file):
+        text = controls(server, "metrics", "--file", file)[0]
+    told = output("promtool", "check", "metrics", input=text)
+    assert told == ("", 0), told
+    for *words, name in (
+        ("check", "config", "prometheus.yml"), ("check", "rules", "stampd.rules.yml"), ("test", "rules", "stampd.test.yml"),
+    ):
+        told, status = output("promtool", *words, PROMETHEUS / name)
+        assert status == 0 and "FAILED" not in told, told
+
+
+def expressions_of_dashboard():
+    panels = json.loads((PROMETHEUS / "stampd.json").read_text())["panels"]
+    return [target["expr"] for panel in panels for target in panel.get("targets", [])]
+
+
+@check
+def rules_and_dashboard_speak_of_metrics_that_are_there(program, folder):
+    with serving(program, folder, session("192.0.2.1:5000")) as (_, server, file):
+        names = set(samples_of(controls(server, "metrics", "--file", file)[0])[1])
+    expressions = expressions_of_dashboard() + re.findall(r"expr: (.*)", (PROMETHEUS / "stampd.rules.yml").read_text())
+    said = {name for text in expressions for name in re.findall(r"\bstampd_\w+", text)}
+    assert len(expressions) > 6 and said == names, (said, names)
+
+
+@check
+def promtool_takes_the_expressions_of_the_dashboard(program, folder):
+    wanted_tool("promtool")
+    rules = [{"record": f"dashboard:{place}", "expr": text} for place, text in enumerate(expressions_of_dashboard())]
+    file = pathlib.Path(folder, "rules.yml")
+    file.write_text(json.dumps({"groups": [{"name": "dashboard", "rules": rules}]}).replace("$__rate_interval", "5m"))
+    told, status = output("promtool", "check", "rules", file)
+    assert status == 0, told
