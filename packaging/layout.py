@@ -5,6 +5,8 @@ import pathlib
 import re
 from typing import Callable, NamedTuple
 
+import stampctl_archive
+
 TOP = pathlib.Path(__file__).resolve().parent.parent
 CONFIGURATION = "/etc/stampd.conf"  # as the sources of the pages name it
 TOOLS = ("captures.py", "delays", "from_pcap", "replay_streams.py", "to_pcap", "why")
@@ -69,7 +71,9 @@ def layout(prefix, program):
     """The files and links of an installation but for the first configuration. `program` gives the octets of the program."""
     at = prefix.path
     yield File(f"{at}/bin/stampd", 0o755, program)
-    yield File(f"{at}/bin/stampctl", 0o755, copied("stampctl"))
+    yield File(f"{at}/bin/stampctl", 0o755, stampctl_archive.archive)
+    yield File(f"{at}/share/bash-completion/completions/stampctl", 0o644, copied("packaging", "completion", "stampctl.bash"))
+    yield File(f"{at}/share/zsh/site-functions/_stampctl", 0o644, copied("packaging", "completion", "_stampctl"))
     yield File(f"{at}/bin/stampd-run", 0o755, copied("packaging", "stampd-run"))
     for name in TOOLS:
         yield File(f"{at}/lib/stampd/{name}", 0o644 if name.endswith(".py") else 0o755, copied("tools", name))

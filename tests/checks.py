@@ -7,6 +7,7 @@ import pathlib
 import shutil
 import subprocess
 import tempfile
+import traceback
 
 TOP = pathlib.Path(__file__).resolve().parent.parent
 PATIENCE = 80  # seconds
@@ -36,7 +37,7 @@ class Checks:
                 print(f"{run.__name__}: skipped, since {cause}")
                 return None
             except (AssertionError, OSError, subprocess.SubprocessError) as fault:
-                print(f"{run.__name__}: {type(fault).__name__}: {fault}")
+                print(f"{run.__name__}: {type(fault).__name__}: {told_of(fault)}")
                 return False
 
     def main(self, description):
@@ -52,6 +53,12 @@ class Checks:
         skipped = f", {found.count(None)} skipped" * (None in found)
         print(f"{found.count(True)} passed, {found.count(False)} failed{skipped}")
         return 1 if False in found else 0
+
+
+def told_of(fault):
+    """What a fault says. Of one that says nothing, where it came."""
+    place = traceback.extract_tb(fault.__traceback__)[-1]
+    return str(fault) or f"{place.filename}, line {place.lineno}: {place.line}"
 
 
 def output(*words, **options):
