@@ -101,7 +101,7 @@ static void answer(int local, const uint8_t *in, size_t len, uint8_t *out, const
 static int take(int local, uint8_t *in, uint8_t *out) {
     struct sockaddr_in from;
     socklen_t size = sizeof from;
-    ssize_t len = recvfrom(sockets[local], in, ROOM, 0, (struct sockaddr *)&from, &size);
+    ssize_t len = recvfrom(sockets[local], in, ROOM, set < 0 ? 0 : MSG_DONTWAIT, (struct sockaddr *)&from, &size);
     if (len < 0) return 0;
     answer(local, in, (size_t)len, out, &from);
     return 1;
@@ -127,9 +127,10 @@ static void open_local(int port) {
     struct timeval wait = {.tv_usec = WAIT_MILLIS * 1000};
     struct epoll_event event = {.events = EPOLLIN | EPOLLET};
     int room = 4 << 20;
-    int fd = socket(AF_INET, SOCK_DGRAM | SOCK_CLOEXEC | (set < 0 ? 0 : SOCK_NONBLOCK), 0);
+    int fd = socket(AF_INET, SOCK_DGRAM | SOCK_CLOEXEC, 0);
     if (fd < 0 || bind(fd, (struct sockaddr *)&local, sizeof local)) fail("bind");
-    if (set < 0) setsockopt(fd, SOL_SOCKET, SO_RCVTIMEO, &wait, sizeof wait);
+    setsockopt(fd, SOL_SOCKET, SO_RCVTIMEO, &wait, sizeof wait);
+    setsockopt(fd, SOL_SOCKET, SO_SNDTIMEO, &wait, sizeof wait);
     setsockopt(fd, SOL_SOCKET, SO_RCVBUF, &room, sizeof room);
     if (set >= 0 && epoll_ctl(set, EPOLL_CTL_ADD, fd, &event)) fail("epoll_ctl");
     sockets[locals++] = fd;

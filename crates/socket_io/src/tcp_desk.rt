@@ -88,6 +88,9 @@ impl<R: Net + Clock + Copy> TcpDesk<R> {
         }
         if is_tick_due(self.last_tick, self.time) {
             self.last_tick = self.time;
+            if let Some(connections) = &mut self.connections {
+                connections.retry();
+            }
             return Ok(Some(DeskEvent::Tick));
         }
         match &mut self.connections {

@@ -5,7 +5,7 @@ ghost use Rattle.refl_types.specs.Limits.{datagram_limit};
 ghost use Rattle.port_io.specs.Outside.{Rises};
 ghost use Rattle.net_io.specs.Port.{datagram_len};
 
-use crate::clock::wall_clock;
+use crate::clock::{LONGEST_WAIT, wall_clock};
 use crate::ends::Ends;
 use crate::raw_address::{RawAddress, decode};
 use crate::sockets::{Received, Sockets, Turn};
@@ -34,6 +34,8 @@ pub struct UdpPort<R: Net + Clock + Copy> {
     alloc: Global,
     ends: Ends,
     stage: Stage,
+    /// The longest wait of a receive, in milliseconds, of the sockets that are opened next.
+    wait: u16,
     sockets: Option<Arc<Sockets, Global>>,
     turn: Turn,
     /// Whom the last datagram came from, and whom one was sent to last.
@@ -98,6 +100,7 @@ impl<R: Net + Clock + Copy> UdpPort<R> {
             alloc,
             ends,
             stage: Stage::Unopened,
+            wait: LONGEST_WAIT,
             sockets: None,
             turn: Turn::of(0),
             from: [0; _SS_SIZE],
@@ -106,6 +109,15 @@ impl<R: Net + Clock + Copy> UdpPort<R> {
             last: 0,
             faults: 0,
         }
+    }
+
+    /// Sets the longest wait of a receive on the local addresses that are opened next, and of the ports that share them: 1 to 100
+    /// milliseconds, the nearest of these where it is none. It is 100 at first.
+    pub fn wait_at_most(&mut self, millis: u16)
+        ensures bound { self.new.bound ≡ self.old.bound }
+        ensures still { self.new.faults ≡ self.old.faults }
+    {
+        self.wait = millis.clamp(1, LONGEST_WAIT);
     }
 
     /// Takes over sockets.
@@ -169,7 +181,7 @@ impl<R: Net + Clock + Copy> Port for UdpPort<R> {
     ghost shown = { λ port. record { bound = port.bound; coming = None; log = None; made = tt; faults = port.faults } };
 
     fn open(&mut self, locals: &[LocalAddr]) -> Result<(), Failed> {
-        let Ok(sockets) = Sockets::bind(&self.rt, self.alloc, locals) else {
+        let Ok(sockets) = Sockets::bind(&self.rt, self.alloc, locals, self.wait) else {
             return Err(count_failure(&mut self.faults));
         };
         let Ok(sockets) = Arc::new(self.alloc, sockets) else {

@@ -1,6 +1,8 @@
 //! A session reflector for STAMP and TWAMP.
 #![tactic(auto)]
 
+use libc::STDERR_FILENO;
+use libc::net::{EPOLL_CLOEXEC, epoll_create1};
 use port_io::{DiskFiles, StdSink, StdSource};
 use program::top::stampd;
 use refl_types::Memory;
@@ -8,6 +10,18 @@ use socket_io::{Ends, TcpDesk, UdpPort};
 use std::alloc::Global;
 use std::process::ExitCode;
 use std::{env, io};
+
+/// Takes the numbers of standard streams that are closed, so that nothing else is opened there. What takes them can neither be
+/// read nor be written: a command that uses such a stream fails as before.
+fn keep_standard_numbers() {
+    for _ in 0..=STDERR_FILENO {
+        let number = epoll_create1(EPOLL_CLOEXEC);
+        if number > STDERR_FILENO {
+            libc::close(number);
+            return;
+        }
+    }
+}
 
 /// As many ports as a configuration file may have workers.
 const PORTS: usize = 64;
@@ -47,6 +61,7 @@ fn command_words(rt: HostRuntime, alloc: Global) -> Result<Vec<String>, Memory> 
 const NO_MEMORY: u8 = 4;
 
 fn main(rt: HostRuntime) -> ExitCode {
+    keep_standard_numbers();
     let alloc = rt.alloc();
     let Ok(words) = command_words(rt, alloc) else {
         return ExitCode::from(NO_MEMORY);
