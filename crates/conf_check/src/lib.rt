@@ -11,6 +11,3 @@ pub use checking::check_file;
 pub use laws::law_content_decides;
 pub use loading::{Refusal, load_conf};
 pub use writing::{write_line, write_refusal};
-
-#[cfg(test)]
-mod tests;

@@ -14,6 +14,3 @@ pub use conf::{Conf, read_conf};
 pub use configs::Named;
 pub use fault::ConfFault;
 pub use sessions::Provided;
-
-#[cfg(test)]
-mod tests;

@@ -25,6 +25,3 @@ mod ticking;
 
 pub use counts::{DeskEnd, DeskTally};
 pub use desk_room::{DeskRoom, run_desk};
-
-#[cfg(test)]
-mod tests;

@@ -4,8 +4,6 @@
 mod ends;
 mod laws;
 mod service;
-#[cfg(test)]
-mod tests;
 
 pub use ends::RunEnd;
 pub use laws::law_run_decides;

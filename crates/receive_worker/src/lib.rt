@@ -5,8 +5,6 @@
 mod buffers;
 mod laws;
 mod tally;
-#[cfg(test)]
-mod tests;
 mod turning;
 mod working;
 

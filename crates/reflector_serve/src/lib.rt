@@ -13,6 +13,3 @@ mod whole;
 pub use laws::law_named;
 pub use report::{Report, ServeFault};
 pub use whole::serve;
-
-#[cfg(test)]
-mod tests;

@@ -16,6 +16,3 @@ pub use book::DeskBook;
 pub use laws::{law_calls_go_on, law_live_stay, law_places_stay, law_rows_serve};
 pub use refl_types::Place;
 pub use session::{NoSuch, ReserveFault, RowsFull, Session, SetFault, Ticked};
-
-#[cfg(test)]
-mod tests;

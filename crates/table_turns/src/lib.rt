@@ -1,4 +1,5 @@
-//! Turns on the shared table, as tests: the desk's book opens, changes and closes sessions, and workers look them up and draw.
+//! Tests of the shared table: calls of the desk's book, and workers that look sessions up and draw while it opens, changes and
+//! closes them.
 #![tactic(auto)]
 
 #[cfg(test)]

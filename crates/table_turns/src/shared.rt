@@ -16,14 +16,14 @@ use std::process::Abort;
 
 const SENDER: Address = Address::V4([192, 0, 2, 1]);
 
-const NO_EXTRA: Extra = Extra {
+pub const NO_EXTRA: Extra = Extra {
     symmetrical: false,
     reflect: 0,
 };
 
-/// The key of a plain session of 192.0.2.1.
-pub fn key(port: u16, ssid: u16) -> Key
-    ensures { result.mode ≡ Mode.Plain }
+/// The key of a session with a port of 192.0.2.1.
+pub fn key(mode: Mode, port: u16, ssid: u16) -> Key
+    ensures { result.mode ≡ mode }
 {
     Key {
         local: 0,
@@ -31,12 +31,12 @@ pub fn key(port: u16, ssid: u16) -> Key
             address: SENDER,
             port,
         },
-        mode: Mode::Plain,
+        mode,
         ssid,
     }
 }
 
-/// A stateful configuration that is told by its Multiplier.
+/// A stateful configuration without a key, with a Multiplier of its own.
 pub fn config(rt: &impl Abort, multiplier: u8) -> Config {
     let parts = ConfigParts {
         stateful: true,

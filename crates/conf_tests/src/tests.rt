@@ -1,0 +1,4 @@
+//! Tests.
+
+mod checking;
+mod reading;

@@ -1,0 +1,4 @@
+//! Tests.
+
+mod files;
+mod runs;

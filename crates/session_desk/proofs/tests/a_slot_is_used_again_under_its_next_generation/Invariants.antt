@@ -1,5 +1,0 @@
-use Rattle.session_desk.specs.Book.{IsBookOf}
-use Rattle.session_desk.proofs.tests.a_slot_is_used_again_under_its_next_generation.Given as goal
-
-abbrev pub invariant-loop-generation : goal.invariant-loop-generation
-invariant-loop-generation g l = IsBookOf l.table l.book
