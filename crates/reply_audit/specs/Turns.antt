@@ -16,7 +16,7 @@ use Rattle.session_world.specs.History.{IsLegal}
 use Rattle.replay_format.specs.declared.code.UnsentCause.TheVariants as causes
 use Rattle.replay_table.specs.Reflection.{meta_of, sent_under}
 use Rattle.replay_table.specs.Outcomes.{cause_of}
-use Rattle.reply_audit.specs.Claims.{Arrival, replied_at, Told, Replied, Unanswered, Changed, SendFault, Claim, Asked, Looked, Ended, FitsClaim}
+use Rattle.reply_audit.specs.Claims.{Arrival, replied_at, Told, Replied, Unanswered, Changed, SendFault, Claim, Asked, Looked, Ended, AllFit}
 use Rattle.reply_audit.specs.Looks.{Look, State, first_state, query_for, look_of}
 use Rattle.reply_audit.specs.Holding.{state_after, IsHistory}
 use Rattle.reply_audit.specs.Events.{Event_answer, events, answers_by}
@@ -82,10 +82,6 @@ abbrev pub turns_of : ℕ → List Claim → List Turn
 turns_of w cs = turns_from w first_state [] cs
 
 -- ---- the law
-
-abbrev pub AllFit : List Claim → Type 0
-AllFit [] = Unit {0}
-AllFit (c ∷ cs) = FitsClaim c × AllFit cs
 
 -- The events are a legal history of the one-thread table, and what each worker answered are its turns
 pub record IsLegalRun (cs : List Claim) : Type 0 where
