@@ -4,7 +4,7 @@ use Rattle.std.specs.List.{starts_with}
 use Rattle.std.proofs.lemmas.Slice.Eq.{bytes_eq-Decides}
 use Rattle.text_forms.specs.Numbers.{number_from}
 use Rattle.load_report.specs.Report.{count_limit}
-use Rattle.program.specs.Command.{CommandParts, Replay, Check, Gen, Run, seeded, load_command, named_command, command_in}
+use Rattle.program.specs.Command.{CommandParts, Replay, Audit, Check, Gen, Run, seeded, load_command, named_command, command_in}
 use Rattle.program.specs.Spelled.{AreWords}
 
 -- what a text says of its number, and a number of its text
@@ -28,17 +28,22 @@ module _ (numbers : Numbers) where
 
   pub words_written : (words : List (List ℕ)) (c : CommandParts) → AreWords c words → command_in words ≡ Some c
   words_written words Replay is = ap command_in is
+  words_written words Audit is = ap command_in is
   words_written words (Check name) is = ap command_in is.0 ∙ named_check name is.1
   words_written words (Gen seed count) is = ap command_in is.0 ∙ load_written seed count is.1 is.2
   words_written words (Run name) is = ap command_in is.0 ∙ named_run name is.1
 
   -- ---- and a command is of its words
 
-  one_read : (word : List ℕ) (c : CommandParts) (b : Bool) → bytes_eq word (codes "replay") ≡ b → cond b (Some Replay) None ≡ Some c → AreWords c (word ∷ [])
-  one_read word c true is e =
+  one_read : (word : List ℕ) (c : CommandParts) (replay audit : Bool) → bytes_eq word (codes "replay") ≡ replay → bytes_eq word (codes "audit") ≡ audit
+      → cond replay (Some Replay) (cond audit (Some Audit) None) ≡ Some c → AreWords c (word ∷ [])
+  one_read word c true audit r a e =
       let same : Replay ≡ c = cc in
-      subst (λ (x : CommandParts). AreWords x (word ∷ [])) same (ap (λ (t : List ℕ). t ∷ []) ((bytes_eq-Decides word (codes "replay")).0 is))
-  one_read word c false is e = absurd cc
+      subst (λ (x : CommandParts). AreWords x (word ∷ [])) same (ap (λ (t : List ℕ). t ∷ []) ((bytes_eq-Decides word (codes "replay")).0 r))
+  one_read word c false true r a e =
+      let same : Audit ≡ c = cc in
+      subst (λ (x : CommandParts). AreWords x (word ∷ [])) same (ap (λ (t : List ℕ). t ∷ []) ((bytes_eq-Decides word (codes "audit")).0 a))
+  one_read word c false false r a e = absurd cc
 
   named_read : (word name : List ℕ) (c : CommandParts) (dash check run : Bool) → starts_with nat_eq name (codes "-") ≡ dash → bytes_eq word (codes "check") ≡ check
       → bytes_eq word (codes "run") ≡ run → cond dash None (cond check (Some (Check name)) (cond run (Some (Run name)) None)) ≡ Some c → AreWords c (word ∷ name ∷ [])
@@ -75,7 +80,7 @@ module _ (numbers : Numbers) where
 
   pub words_read : (words : List (List ℕ)) (c : CommandParts) → command_in words ≡ Some c → AreWords c words
   words_read [] c e = absurd cc
-  words_read (word ∷ []) c e = one_read word c (bytes_eq word (codes "replay")) refl e
+  words_read (word ∷ []) c e = one_read word c (bytes_eq word (codes "replay")) (bytes_eq word (codes "audit")) refl refl e
   words_read (word ∷ name ∷ []) c e =
       named_read word name c (starts_with nat_eq name (codes "-")) (bytes_eq word (codes "check")) (bytes_eq word (codes "run")) refl refl refl e
   words_read (word ∷ first ∷ second ∷ []) c e = three_read word first second c (bytes_eq word (codes "gen")) refl e

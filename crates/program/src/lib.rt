@@ -5,7 +5,6 @@ mod commands;
 pub mod laws;
 pub mod offline;
 mod outbox;
-mod read_ahead;
 #[cfg(test)]
 mod tests;
 pub mod top;

@@ -6,22 +6,21 @@ ghost use Rattle.replay_format.specs.Answers.{Left, answer_octets};
 ghost use Rattle.program.specs.Buffers.{due};
 ghost use Rattle.port_io.specs.Outside.{Rises, AppendsFront};
 ghost use Rattle.conf_check.specs.Checking.{Checked};
+ghost use Rattle.audit_report.specs.Runs.{Audited};
 ghost use Rattle.load_report.specs.Report.{Generated};
-ghost use Rattle.program.specs.Command.{Replay, Check, Gen, Run, command_in, WroteUsage};
+ghost use Rattle.program.specs.Command.{Replay, Audit, Check, Gen, Run, command_in, WroteUsage};
 ghost use Rattle.program.specs.Replay.{Replayed, IsDone, HasLeft, WasCutOff, WasStopped, IsUntouched};
 
 use crate::commands::Command;
 use crate::outbox::{Outbox, Taken};
-use crate::read_ahead::ReadAhead;
 use crate::words::read_command;
+use audit_report::report_audit;
 use conf_check::{check_file, write_line};
 use load_report::report_load;
 use port_io::{Files, Sink, Source};
+use read_ahead::{ReadAhead, STREAM_LIMIT};
 use shared_replay::Sessions;
 use std::alloc::Global;
-
-/// Octets of the longest stream.
-pub const STREAM_LIMIT: u64 = 1 << 30;
 
 /// How a replay ended.
 #[derive(Clone, Copy, Debug, PartialEq, Eq)]
@@ -130,7 +129,8 @@ const USAGE: &[u8] = b"stampd: usage\n";
 /// Runs the command that the words name, and gives the status with which the program ends.
 ///
 /// `replay` answers the records of the input: 0 where all were answered, 6 where the input left its grammar, 7 where a read
-/// failed. `check FILE` says what a configuration file has: 0 where it is accepted, 3 where its text has a fault, 5 where it
+/// failed. `audit` says whether the input is a recorded run that is a history: 0 where it is, 12 where it isn't, 6 where it is no
+/// list of entries, 7 where a read failed. `check FILE` says what a configuration file has: 0 where it is accepted, 3 where its text has a fault, 5 where it
 /// wasn't loaded. `gen SEED COUNT` replays a generated load in memory and writes four lines of it: 0. Each ends with 4 for
 /// want of memory and with 8 where a write failed. Other words are no command, for which the status is 2.
 pub fn offline<S: Source, K: Sink, F: Files>(
@@ -147,6 +147,9 @@ pub fn offline<S: Source, K: Sink, F: Files>(
     ensures replay { command_in (map string_bytes words.now) ≡ Some Replay
         → Replayed (S.left input.old) (S.left input.new) (S.faults input.old) (S.faults input.new) (K.shown out.old) (K.shown out.new) result
         × (files.new ≡ files.old) }
+    ensures audit { command_in (map string_bytes words.now) ≡ Some Audit
+        → Audited (S.left input.old) (S.left input.new) (S.faults input.old) (S.faults input.new) (K.shown out.old) (K.shown out.new) result
+        × (files.new ≡ files.old) }
     ensures check { (name : List ℕ) → command_in (map string_bytes words.now) ≡ Some (Check name)
         → Checked (F.files files.old) (F.files files.new) (F.faults files.old) (F.faults files.new) name (K.shown out.old) (K.shown out.new) result
         × (input.new ≡ input.old) }
@@ -155,6 +158,7 @@ pub fn offline<S: Source, K: Sink, F: Files>(
 {
     match read_command(words) {
         Some(Command::Replay) => replay_all(alloc, input, out),
+        Some(Command::Audit) => report_audit(alloc, input, out),
         Some(Command::Check(name)) => check_file(alloc, name, files, out),
         Some(Command::Gen(seed, count)) => report_load(alloc, seed, count, out),
         Some(Command::Run(_)) | None => {

@@ -2,9 +2,10 @@
 
 ghost use Rattle.std.specs.Prelude.{ℕ, ◌≡◌, List, Some, None, map, string_bytes};
 ghost use Rattle.conf_check.specs.Checking.{Checked};
+ghost use Rattle.audit_report.specs.Runs.{Audited};
 ghost use Rattle.load_report.specs.Report.{Generated};
 ghost use Rattle.file_service.specs.Service.{Ran};
-ghost use Rattle.program.specs.Command.{Replay, Check, Gen, Run, command_in, WroteUsage};
+ghost use Rattle.program.specs.Command.{Replay, Audit, Check, Gen, Run, command_in, WroteUsage};
 ghost use Rattle.program.specs.Replay.{Replayed};
 
 use crate::commands::Command;
@@ -37,6 +38,9 @@ pub fn stampd<R: Threads + Sync, S: Source, K: Sink, F: Files, P: Port + Send, D
         × (input.new ≡ input.old) × (files.new ≡ files.old) × (ports.new ≡ ports.old) × (desk.new ≡ desk.old) }
     ensures replay { command_in (map string_bytes words.now) ≡ Some Replay
         → Replayed (S.left input.old) (S.left input.new) (S.faults input.old) (S.faults input.new) (K.shown out.old) (K.shown out.new) result
+        × (files.new ≡ files.old) × (ports.new ≡ ports.old) × (desk.new ≡ desk.old) }
+    ensures audit { command_in (map string_bytes words.now) ≡ Some Audit
+        → Audited (S.left input.old) (S.left input.new) (S.faults input.old) (S.faults input.new) (K.shown out.old) (K.shown out.new) result
         × (files.new ≡ files.old) × (ports.new ≡ ports.old) × (desk.new ≡ desk.old) }
     ensures check { (name : List ℕ) → command_in (map string_bytes words.now) ≡ Some (Check name)
         → Checked (F.files files.old) (F.files files.new) (F.faults files.old) (F.faults files.new) name (K.shown out.old) (K.shown out.new) result

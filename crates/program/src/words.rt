@@ -47,6 +47,8 @@ pub fn read_command<'a>(words: &'a [String]) -> Option<Command<'a>>
         [word] => {
             if word.as_str() == "replay" {
                 Some(Command::Replay)
+            } else if word.as_str() == "audit" {
+                Some(Command::Audit)
             } else {
                 None
             }

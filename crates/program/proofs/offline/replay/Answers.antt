@@ -2,7 +2,8 @@ use Rattle.std.proofs.Common.{◌≡◌, ℕ, List, [], ◌∷◌, ◌++◌, len
 use Rattle.std.proofs.lemmas.List.{length-append, length-drop, append-nil, nil_from_length}
 use Rattle.port_io.specs.Outside.{Rises}
 use Rattle.replay_format.specs.View.{IsFront, IsBegun, IsForeign}
-use Rattle.program.specs.Buffers.{pending, due}
+use Rattle.read_ahead.specs.Buffers.{pending}
+use Rattle.program.specs.Buffers.{due}
 use Rattle.program.specs.Replay.{LeavesGrammar}
 use Rattle.program.proofs.Going.{going_none, going_same, going_more, going_written, going_record, end_done, end_cut, end_left, end_stopped, end_stopped_leaving, begun_short, front_length}
 use Rattle.program.proofs.offline.replay.Goals as goal

@@ -1,6 +1,7 @@
 use Rattle.std.proofs.Common.{◌≡◌, ◌≤◌, List, length, ◌+◌, ◌-◌, ◌*◌, ◌^◌}
 use Rattle.replay_format.specs.Records.{Item}
-use Rattle.program.specs.Buffers.{pending, due}
+use Rattle.read_ahead.specs.Buffers.{pending}
+use Rattle.program.specs.Buffers.{due}
 use Rattle.program.proofs.Going.{Going}
 use Rattle.program.proofs.offline.replay.Given as goal
 

@@ -11,6 +11,9 @@ use std::alloc::Global;
 /// Octets of the buffer.
 pub const ROOM: usize = 524_288;
 
+/// Octets of the longest stream that is read.
+pub const STREAM_LIMIT: u64 = 1 << 30;
+
 /// Octets that were read ahead of what was taken.
 #[derive(Drop)]
 pub struct ReadAhead {
@@ -23,7 +26,7 @@ pub struct ReadAhead {
 }
 
 impl ReadAhead {
-    ghost use Rattle.program.specs.Buffers.{pending};
+    ghost use Rattle.read_ahead.specs.Buffers.{pending};
 
     /// An empty buffer. All its memory is taken here.
     pub fn make(alloc: Global) -> Result<ReadAhead, Memory>

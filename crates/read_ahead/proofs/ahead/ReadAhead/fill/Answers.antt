@@ -2,9 +2,9 @@ use Rattle.std.proofs.Common.{ap, take, drop, length, ◌≡◌, ◌+◌, ◌-�
 use Rattle.std.proofs.Math.Seq.{take-add}
 use Rattle.std.proofs.lemmas.Result.{err_from_is_err_and}
 use Rattle.std.proofs.lemmas.List.{with_items_is, length-drop, length-take, length-take-le}
-use Rattle.program.specs.Buffers.{between}
-use Rattle.program.proofs.Places.{between_same, between_more}
-use Rattle.program.proofs.read_ahead.ReadAhead.fill.Goals as goal
+use Rattle.read_ahead.specs.Buffers.{between}
+use Rattle.read_ahead.proofs.Places.{between_same, between_more}
+use Rattle.read_ahead.proofs.ahead.ReadAhead.fill.Goals as goal
 
 pub returns-in_err-count-clause-err : goal.returns-in_err-count-clause-err
 returns-in_err-count-clause-err g c =

@@ -1,0 +1,3 @@
+mod FrontFacts
+mod RunFacts
+mod Decides
