@@ -5,14 +5,16 @@ import pathlib
 import re
 from typing import Callable, NamedTuple
 
-import stampctl_archive
+from stampctl_archive import archive
 
 TOP = pathlib.Path(__file__).resolve().parent.parent
 CONFIGURATION = "/etc/stampd.conf"  # as the sources of the pages name it
 TOOLS = ("captures.py", "delays", "from_pcap", "replay_streams.py", "to_pcap", "why")
 COMMANDS = {"stampd-delays": "delays", "stampd-from-pcap": "from_pcap", "stampd-to-pcap": "to_pcap", "stampd-why": "why"}
+COMPLETIONS = {"stampctl.bash": "bash-completion/completions/stampctl", "_stampctl": "zsh/site-functions/_stampctl"}
 PAGE = "stampd-why"  # the page of all of them
-OWN_FOLDERS = ("lib/stampd", "share/doc/stampd/docs", "share/doc/stampd/examples", "share/doc/stampd")
+DOCUMENTS = "share/doc/stampd"
+OWN_FOLDERS = ("lib/stampd", f"{DOCUMENTS}/docs", f"{DOCUMENTS}/examples", f"{DOCUMENTS}/prometheus", DOCUMENTS)
 PREFIX = re.compile(r"(?:/[A-Za-z0-9._+@:,=~ -]+)+")
 
 
@@ -71,9 +73,7 @@ def layout(prefix, program):
     """The files and links of an installation but for the first configuration. `program` gives the octets of the program."""
     at = prefix.path
     yield File(f"{at}/bin/stampd", 0o755, program)
-    yield File(f"{at}/bin/stampctl", 0o755, stampctl_archive.archive)
-    yield File(f"{at}/share/bash-completion/completions/stampctl", 0o644, copied("packaging", "completion", "stampctl.bash"))
-    yield File(f"{at}/share/zsh/site-functions/_stampctl", 0o644, copied("packaging", "completion", "_stampctl"))
+    yield File(f"{at}/bin/stampctl", 0o755, archive)
     yield File(f"{at}/bin/stampd-run", 0o755, copied("packaging", "stampd-run"))
     for name in TOOLS:
         yield File(f"{at}/lib/stampd/{name}", 0o644 if name.endswith(".py") else 0o755, copied("tools", name))
@@ -83,8 +83,12 @@ def layout(prefix, program):
         yield File(f"{at}/share/man/man{page.suffix[1:]}/{page.name}", 0o644, prefix.filled("man", page.name))
     for name in COMMANDS.keys() - {PAGE}:
         yield Link(f"{at}/share/man/man1/{name}.1", f"{PAGE}.1")
+    for name, place in COMPLETIONS.items():
+        yield File(f"{at}/share/{place}", 0o644, copied("packaging", "completion", name))
+    for file in sorted((TOP / "packaging" / "prometheus").iterdir()):
+        yield File(f"{at}/{DOCUMENTS}/prometheus/{file.name}", 0o644, file.read_bytes)
     for name in documents():
-        yield File(f"{at}/share/doc/stampd/{name}", 0o644, copied(name))
+        yield File(f"{at}/{DOCUMENTS}/{name}", 0o644, copied(name))
     yield File(prefix.unit, 0o644, prefix.filled("packaging", "stampd.service"))
 
 

@@ -10,10 +10,10 @@ import zipapp
 SOURCE = pathlib.Path(__file__).resolve().parent.parent / "control"
 
 
-def archive(interpreter="/usr/bin/env python3"):
+def archive():
     """The octets of the program."""
     made = io.BytesIO()
-    zipapp.create_archive(SOURCE, made, interpreter, filter=lambda file: file.suffix == ".py", compressed=True)
+    zipapp.create_archive(SOURCE, made, "/usr/bin/env python3", filter=lambda file: file.suffix == ".py", compressed=True)
     return made.getvalue()
 
 

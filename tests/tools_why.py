@@ -120,6 +120,7 @@ local = 0
         folder, ("192.0.2.20:5000", here, plain_request(1, 0)), ("192.0.2.20:5000", here, plain_request(2, 0)),
         ("[2001:db8::1]:5000", other, plain_request(1, 0)), ("192.0.2.21:5000", here, bytes(10)),
         ("192.0.2.20:5000", "192.0.2.10:53", b"none of ours"), ("192.0.2.23:862", here, plain_request(1, 0)),
+        (other, "[2001:db8::1]:862", b"a reply, to a port that is ours as well"),
     )
     told, status = why(program, "--each", file, capture)
     day = "2025-12-02T16:00:00.00000"
